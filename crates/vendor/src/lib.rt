@@ -1,0 +1,12 @@
+// Reads a vendor's file: rows of plan outputs and prices, checked whole and then written into lent tables.
+mod faults;
+mod numbers;
+mod rows;
+
+pub use faults::FieldFault;
+pub use faults::FileFault;
+pub use faults::RowFault;
+pub use numbers::parse;
+pub use rows::Entry;
+pub use rows::Row;
+pub use rows::Shape;
