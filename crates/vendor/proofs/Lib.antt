@@ -1,1 +1,4 @@
 pub mod Decimals
+pub mod Cuts
+pub mod Walking
+pub mod Questions

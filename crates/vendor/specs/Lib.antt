@@ -1,2 +1,6 @@
 pub mod Faults
 pub mod Numbers
+pub mod Pieces
+pub mod Rows
+pub mod Files
+pub mod Walks

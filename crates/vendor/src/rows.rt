@@ -1,4 +1,8 @@
 // The four kinds of row: as parts of the file, and as the numbers that these write.
+ghost use mathlib.Core.Path.{_≡_};
+ghost use Rattle.vendor.specs.Rows.{any, below, one-to, field-answer, natural-answer, fields-of, numbers-answer, place-of};
+use crate::faults::FieldFault;
+use crate::numbers::parse;
 
 // What a file is read for: the day's periods and lines, and the size told for the fleet.
 #[derive(Clone, Copy, PartialEq, Eq, Debug)]
@@ -24,4 +28,112 @@ pub enum Entry {
     System { period: usize, price: i32 },
     Line { line: usize, period: usize, upper: i32, lower: i32 },
     Ramp { row: usize, period: usize, rise: i32, fall: i32 },
+}
+
+// A letter of the file, in the order in which they come; `Nothing` is before the first row.
+#[derive(Clone, Copy, PartialEq, Eq, Debug)]
+pub enum Group {
+    Nothing,
+    Outputs,
+    System,
+    Lines,
+    Ramps,
+}
+
+// Where the last row stands in the order; an S row has index 0.
+#[derive(Clone, Copy, PartialEq, Eq, Debug)]
+pub struct Last {
+    pub group: Group,
+    pub index: usize,
+    pub period: usize,
+}
+
+const MARKS: usize = 256;
+
+// The number in a field, which stands at place `field` in its row.
+fn number(text: &[u8], field: usize) -> Result<i32, FieldFault>
+    ensures { λ r. ⌜ r ≡ field-answer any field (now (text .entry)) ⌝ }
+{
+    match parse(text) {
+        Some(value) => Ok(value),
+        None => Err(FieldFault::Malformed { field }),
+    }
+}
+
+// The number in a field, from 0 and below `limit`.
+fn index(text: &[u8], field: usize, limit: usize) -> Result<usize, FieldFault>
+    ensures { λ r. ⌜ r ≡ natural-answer (below limit) field (now (text .entry)) ⌝ }
+{
+    let value = number(text, field)?;
+    if value < 0 {
+        return Err(FieldFault::OutOfRange { field });
+    }
+    if value as usize >= limit {
+        return Err(FieldFault::OutOfRange { field });
+    }
+    Ok(value as usize)
+}
+
+// The number in a field, from 1 to `limit`.
+fn one_of(text: &[u8], field: usize, limit: usize) -> Result<usize, FieldFault>
+    ensures { λ r. ⌜ r ≡ natural-answer (one-to limit) field (now (text .entry)) ⌝ }
+{
+    let value = number(text, field)?;
+    if value < 1 {
+        return Err(FieldFault::OutOfRange { field });
+    }
+    if value as usize > limit {
+        return Err(FieldFault::OutOfRange { field });
+    }
+    Ok(value as usize)
+}
+
+impl Row<'_> {
+    // The numbers of the row, or the fault of its first faulty field.
+    pub fn numbers(&self, shape: &Shape) -> Result<Entry, FieldFault>
+        ensures { λ r. ⌜ r ≡ numbers-answer (now (shape .entry)) (fields-of (now (self .entry))) ⌝ }
+    {
+        match self {
+            Row::Output { row, period, mark, output } => {
+                let row = index(row, 2, shape.size)?;
+                let period = one_of(period, 3, shape.periods)?;
+                let mark = index(mark, 4, MARKS)? as u8;
+                let output = number(output, 5)?;
+                Ok(Entry::Output { row, period, mark, output })
+            }
+            Row::System { period, price } => {
+                let period = one_of(period, 2, shape.periods)?;
+                let price = number(price, 3)?;
+                Ok(Entry::System { period, price })
+            }
+            Row::Line { line, period, upper, lower } => {
+                let line = index(line, 2, shape.lines)?;
+                let period = one_of(period, 3, shape.periods)?;
+                let upper = number(upper, 4)?;
+                let lower = number(lower, 5)?;
+                Ok(Entry::Line { line, period, upper, lower })
+            }
+            Row::Ramp { row, period, rise, fall } => {
+                let row = index(row, 2, shape.size)?;
+                let period = one_of(period, 3, shape.periods)?;
+                let rise = number(rise, 4)?;
+                let fall = number(fall, 5)?;
+                Ok(Entry::Ramp { row, period, rise, fall })
+            }
+        }
+    }
+}
+
+impl Entry {
+    // Where the row stands in the order of the file.
+    pub fn place(&self) -> Last
+        ensures { λ r. ⌜ r ≡ place-of (now (self .entry)) ⌝ }
+    {
+        match self {
+            Entry::Output { row, period, .. } => Last { group: Group::Outputs, index: *row, period: *period },
+            Entry::System { period, .. } => Last { group: Group::System, index: 0, period: *period },
+            Entry::Line { line, period, .. } => Last { group: Group::Lines, index: *line, period: *period },
+            Entry::Ramp { row, period, .. } => Last { group: Group::Ramps, index: *row, period: *period },
+        }
+    }
 }

@@ -1,0 +1,183 @@
+-- A whole file: its rows, its fault, and what its tables hold. Assumes nothing.
+use mathlib.Core.Path.{_≡_}
+use mathlib.Core.Bool.{Bool, true, false, cond, _&&_}
+use mathlib.Core.List.{List, [], _∷_, _++_, map}
+use Prim.Native.Nat.{ℕ, _+_, _*_, _-_, _<_}
+use lib.Dec.{eqb, leb}
+use lib.IntN.{ℤ, pos}
+use lib.ListN.{length, getD}
+use Rattle.std.specs.Iters.{counting}
+use Rattle.std.specs.Options as options
+use Rattle.std.specs.declared.option.Option.{Option}
+use Rattle.std.specs.declared.option.Option.the-variants.{Some, None}
+use Rattle.std.specs.declared.result.Result.{Result}
+use Rattle.std.specs.declared.result.Result.the-variants.{Ok, Err}
+use Rattle.vendor.specs.declared.faults.RowFault.{RowFault}
+use Rattle.vendor.specs.declared.faults.FileFault.{FileFault}
+use Rattle.vendor.specs.declared.faults.FileFault.the-variants.{Tables, Row}
+use Rattle.vendor.specs.declared.rows.Shape.{Shape}
+use Rattle.vendor.specs.declared.rows.Last.{Last}
+use Rattle.vendor.specs.declared.rows.Entry.{Entry}
+use Rattle.vendor.specs.declared.rows.Entry.the-variants.{Output, System, Line, Ramp}
+use Rattle.vendor.specs.declared.tables.Counts.{Counts}
+use Rattle.vendor.specs.declared.tables.Tables as tables
+use Rattle.vendor.specs.Pieces.{pieces}
+use Rattle.vendor.specs.Rows as rows
+use Rattle.vendor.specs.Rows.{fields, entry-of, place-of, start, row-fault}
+
+-- what stands before each byte 10 is a row that it ended; what follows the last, if anything, is a row that none ended
+abbrev pub lines-of : List (List ℕ) → List rows.Line
+lines-of [] = []
+lines-of ([] ∷ []) = []
+lines-of ((b ∷ bs) ∷ []) = record { bytes = b ∷ bs; ended = false } ∷ []
+lines-of (p ∷ q ∷ ps) = record { bytes = p; ended = true } ∷ lines-of (q ∷ ps)
+
+unfoldable pub lines : List ℕ → List rows.Line
+lines file = lines-of (pieces 10 file)
+
+-- the place of a row in the order
+abbrev pub place : rows.Line → Last
+place l = place-of (entry-of (fields l))
+
+-- the row's fault, or else that of the rows after it
+abbrev pub row-or : Option RowFault → ℕ → Option FileFault → Option FileFault
+row-or (Some e) n later = Some (Row n e)
+row-or None n later = later
+
+-- the fault of the first faulty row, of rows that are counted from n and come after `last`
+abbrev pub fault-from : Shape → ℕ → Last → List rows.Line → Option FileFault
+fault-from sh n last [] = None
+fault-from sh n last (l ∷ ls) = row-or (row-fault sh last l) n (fault-from sh (n + 1) (place l) ls)
+
+abbrev pub fault-of : Shape → List ℕ → Option FileFault
+fault-of sh file = fault-from sh 1 start (lines file)
+
+abbrev pub entries : List rows.Line → List Entry
+entries ls = map (λ l. entry-of (fields l)) ls
+
+-- tables lie item by item and then by period
+abbrev pub cell : Shape → ℕ → ℕ → ℕ
+cell sh item period = item * sh .periods + (period - 1)
+
+-- which cell of a table a row names, and the number that it tells there
+abbrev pub mark-told : Shape → Entry → Option (ℕ × ℕ)
+mark-told sh (Output row period mark output) = Some (cell sh row period, mark)
+mark-told sh (System period price) = None
+mark-told sh (Line line period upper lower) = None
+mark-told sh (Ramp row period rise fall) = None
+
+abbrev pub output-told : Shape → Entry → Option (ℕ × ℤ)
+output-told sh (Output row period mark output) = Some (cell sh row period, output)
+output-told sh (System period price) = None
+output-told sh (Line line period upper lower) = None
+output-told sh (Ramp row period rise fall) = None
+
+abbrev pub system-told : Shape → Entry → Option (ℕ × ℤ)
+system-told sh (Output row period mark output) = None
+system-told sh (System period price) = Some (period - 1, price)
+system-told sh (Line line period upper lower) = None
+system-told sh (Ramp row period rise fall) = None
+
+abbrev pub upper-told : Shape → Entry → Option (ℕ × ℤ)
+upper-told sh (Output row period mark output) = None
+upper-told sh (System period price) = None
+upper-told sh (Line line period upper lower) = Some (cell sh line period, upper)
+upper-told sh (Ramp row period rise fall) = None
+
+abbrev pub lower-told : Shape → Entry → Option (ℕ × ℤ)
+lower-told sh (Output row period mark output) = None
+lower-told sh (System period price) = None
+lower-told sh (Line line period upper lower) = Some (cell sh line period, lower)
+lower-told sh (Ramp row period rise fall) = None
+
+abbrev pub rise-told : Shape → Entry → Option (ℕ × ℤ)
+rise-told sh (Output row period mark output) = None
+rise-told sh (System period price) = None
+rise-told sh (Line line period upper lower) = None
+rise-told sh (Ramp row period rise fall) = Some (cell sh row period, rise)
+
+abbrev pub fall-told : Shape → Entry → Option (ℕ × ℤ)
+fall-told sh (Output row period mark output) = None
+fall-told sh (System period price) = None
+fall-told sh (Line line period upper lower) = None
+fall-told sh (Ramp row period rise fall) = Some (cell sh row period, fall)
+
+-- a cell that held x, after a row that tells this
+abbrev pub after : {A : Type 0} → Option (ℕ × A) → ℕ → A → A
+after None i x = x
+after (Some p) i x = cond (eqb (p .0) i) (p .1) x
+
+-- a cell that held x, after these rows: what the row that names it tells, else x
+abbrev pub after-all : {A : Type 0} → (Entry → Option (ℕ × A)) → ℕ → A → List Entry → A
+after-all told i x [] = x
+after-all told i x (e ∷ es) = after-all told i (after (told e) i x) es
+
+-- a table of n cells, each of what the row that names it tells, else zero
+abbrev pub table : {A : Type 0} → (Entry → Option (ℕ × A)) → ℕ → A → List Entry → List A
+table told n zero es = map (λ i. after-all told i zero es) (counting 0 n)
+
+-- what the lent tables hold
+pub record Contents : Type 0 where
+  pub marks : List ℕ
+  pub outputs : List ℤ
+  pub system : List ℤ
+  pub upper : List ℤ
+  pub lower : List ℤ
+  pub rise : List ℤ
+  pub fall : List ℤ
+
+abbrev pub contents : tables.Tables → Contents
+contents t = record { marks = t .marks .now; outputs = t .outputs .now; system = t .system .now; upper = t .upper .now; lower = t .lower .now; rise = t .rise .now; fall = t .fall .now }
+
+-- a size of at most 32, and every table of its exact length
+abbrev pub sized : Shape → Contents → Bool
+sized sh c =
+    leb (sh .size) 32 && (eqb (length (c .marks)) (sh .size * sh .periods) && (eqb (length (c .outputs)) (sh .size * sh .periods)
+    && (eqb (length (c .system)) (sh .periods) && (eqb (length (c .upper)) (sh .lines * sh .periods) && (eqb (length (c .lower)) (sh .lines * sh .periods)
+    && (eqb (length (c .rise)) (sh .size * sh .periods) && eqb (length (c .fall)) (sh .size * sh .periods)))))))
+
+-- what the tables hold after a file of these rows was taken
+abbrev pub filled : Shape → List Entry → Contents
+filled sh es = record {
+    marks = table (mark-told sh) (sh .size * sh .periods) 0 es;
+    outputs = table (output-told sh) (sh .size * sh .periods) (pos 0) es;
+    system = table (system-told sh) (sh .periods) (pos 0) es;
+    upper = table (upper-told sh) (sh .lines * sh .periods) (pos 0) es;
+    lower = table (lower-told sh) (sh .lines * sh .periods) (pos 0) es;
+    rise = table (rise-told sh) (sh .size * sh .periods) (pos 0) es;
+    fall = table (fall-told sh) (sh .size * sh .periods) (pos 0) es;
+  }
+
+-- how many rows there are of each letter
+abbrev pub one-more : Entry → Counts → Counts
+one-more (Output row period mark output) c = record { outputs = c .outputs + 1; system = c .system; lines = c .lines; ramps = c .ramps }
+one-more (System period price) c = record { outputs = c .outputs; system = c .system + 1; lines = c .lines; ramps = c .ramps }
+one-more (Line line period upper lower) c = record { outputs = c .outputs; system = c .system; lines = c .lines + 1; ramps = c .ramps }
+one-more (Ramp row period rise fall) c = record { outputs = c .outputs; system = c .system; lines = c .lines; ramps = c .ramps + 1 }
+
+abbrev pub counted : Counts → List Entry → Counts
+counted c [] = c
+counted c (e ∷ es) = counted (one-more e c) es
+
+abbrev pub none-counted : Counts
+none-counted = record { outputs = 0; system = 0; lines = 0; ramps = 0 }
+
+-- a file's fault: 8 first, then that of its first faulty row
+unfoldable pub whole-fault : Shape → List ℕ → Contents → Option FileFault
+whole-fault sh file c = cond (sized sh c) (fault-of sh file) (Some Tables)
+
+abbrev pub answered : Option FileFault → Counts → Result Counts FileFault
+answered None c = Ok c
+answered (Some e) c = Err e
+
+-- how a file is answered
+abbrev pub answer : Shape → List ℕ → Contents → Result Counts FileFault
+answer sh file c = answered (whole-fault sh file c) (counted none-counted (entries (lines file)))
+
+abbrev pub unless : {A : Type 0} → Option FileFault → A → A → A
+unless None refused taken = taken
+unless (Some e) refused taken = refused
+
+-- what the tables hold then: as they were where the file is refused
+abbrev pub tables-after : Shape → List ℕ → Contents → Contents
+tables-after sh file c = unless (whole-fault sh file c) c (filled sh (entries (lines file)))
