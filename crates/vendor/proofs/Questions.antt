@@ -30,7 +30,7 @@ stopped [] rs f told = let z : _≡_ {A = ℕ} 0 1 = cc in absurd (omega arith)
 stopped ((true, e) ∷ qs) rs f told = stopped qs rs f told
 stopped ((false, e) ∷ qs) rs f told = told
 
-in-fields : (qs : List (Bool × FieldFault)) → first-no (map in-field qs) ≡ mapped Field (first-no qs)
+pub in-fields : (qs : List (Bool × FieldFault)) → first-no (map in-field qs) ≡ mapped Field (first-no qs)
 in-fields [] = refl
 in-fields ((true, e) ∷ qs) = in-fields qs
 in-fields ((false, e) ∷ qs) = refl
@@ -45,10 +45,10 @@ module _ {A F : Type 0} where
   by-ok (Some f) x y told = let z : _≡_ {A = ℕ} 0 1 = cc in absurd (omega arith)
 
 module _ (sh : Shape) (last : Last) (l : Line) where
-  abbrev order : List (Bool × RowFault)
+  abbrev pub order : List (Bool × RowFault)
   order = (follows last (place-of (entry-of (fields l))), OutOfOrder) ∷ []
 
-  abbrev numbers : List (Bool × RowFault)
+  abbrev pub numbers : List (Bool × RowFault)
   numbers = map in-field (number-questions sh (fields l))
 
   cut-fault : (e : RowFault) → first-no (cut-questions l) ≡ Some e → row-fault sh last l ≡ Some e

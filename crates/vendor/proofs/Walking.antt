@@ -31,7 +31,7 @@ pieces-some sep (b ∷ bs) =
     elim (eqb b sep) as (λ t. (q : List ℕ) × (qs : List (List ℕ)) × (cond t ([] ∷ pieces sep bs) (onto b (pieces sep bs)) ≡ q ∷ qs))
     [ true ↦ ([], pieces sep bs, refl) | false ↦ onto-some b (pieces sep bs) ]
 
-lines-cons : (p : List ℕ) (ps : List (List ℕ)) (q : List ℕ) (qs : List (List ℕ)) → ps ≡ q ∷ qs → lines-of (p ∷ ps) ≡ record { bytes = p; ended = true } ∷ lines-of ps
+pub lines-cons : (p : List ℕ) (ps : List (List ℕ)) (q : List ℕ) (qs : List (List ℕ)) → ps ≡ q ∷ qs → lines-of (p ∷ ps) ≡ record { bytes = p; ended = true } ∷ lines-of ps
 lines-cons p ps q qs e = subst (λ rs. lines-of (p ∷ rs) ≡ record { bytes = p; ended = true } ∷ lines-of rs) (sym e) refl
 
 -- a row that byte 10 ends

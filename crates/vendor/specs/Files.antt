@@ -170,6 +170,13 @@ abbrev pub answered : Option FileFault → Counts → Result Counts FileFault
 answered None c = Ok c
 answered (Some e) c = Err e
 
+-- how rows are answered that are counted from n and come after `last`, with c counted before them
+abbrev pub rows-answer-from : Shape → ℕ → Last → Counts → List rows.Line → Result Counts FileFault
+rows-answer-from sh n last c ls = answered (fault-from sh n last ls) (counted c (entries ls))
+
+abbrev pub rows-answer : Shape → List ℕ → Result Counts FileFault
+rows-answer sh file = rows-answer-from sh 1 start none-counted (lines file)
+
 -- how a file is answered
 abbrev pub answer : Shape → List ℕ → Contents → Result Counts FileFault
 answer sh file c = answered (whole-fault sh file c) (counted none-counted (entries (lines file)))

@@ -4,3 +4,4 @@ pub mod Pieces
 pub mod Rows
 pub mod Files
 pub mod Walks
+pub mod Fills

@@ -1,0 +1,51 @@
+-- How a whole file is answered, by its size and its first faulty row. Assumes nothing.
+use mathlib.Core.Path.{_≡_, refl, sym, ap, _∙_}
+use mathlib.Core.Bool.{Bool, true, false, cond}
+use mathlib.Core.List.{List}
+use Prim.Native.Nat.{ℕ}
+use native.Mathlib.Omega.{arith}
+use Rattle.std.specs.declared.option.Option.{Option}
+use Rattle.std.specs.declared.option.Option.the-variants.{Some, None}
+use Rattle.std.specs.declared.result.Result.the-variants.{Ok, Err}
+use Rattle.std.proofs.shelf.Tests.{cond-true, cond-false}
+use Rattle.vendor.specs.declared.faults.FileFault.{FileFault}
+use Rattle.vendor.specs.declared.faults.FileFault.the-variants.{Tables}
+use Rattle.vendor.specs.declared.rows.Shape.{Shape}
+use Rattle.vendor.specs.declared.tables.Counts.{Counts}
+use Rattle.vendor.specs.Files.{lines, entries, counted, none-counted, answered, unless, Contents, sized, filled, fault-of, rows-answer, whole-fault, answer, tables-after}
+
+by-err : (o : Option FileFault) (n : Counts) (f : FileFault) → Err f ≡ answered o n → o ≡ Some f
+by-err None n f e = let z : _≡_ {A = ℕ} 0 1 = cc in absurd (omega arith)
+by-err (Some g) n f e = cc
+
+by-ok : (o : Option FileFault) (n m : Counts) → Ok m ≡ answered o n → (o ≡ None) × (m ≡ n)
+by-ok None n m e = (refl, cc)
+by-ok (Some g) n m e = let z : _≡_ {A = ℕ} 0 1 = cc in absurd (omega arith)
+
+module _ (sh : Shape) (file : List ℕ) (c : Contents) where
+  abbrev counts : Counts
+  counts = counted none-counted (entries (lines file))
+
+  fault-unsized : sized sh c ≡ false → whole-fault sh file c ≡ Some Tables
+  unfolding whole-fault
+  fault-unsized e = cond-false (sized sh c) _ _ e
+
+  fault-sized : sized sh c ≡ true → whole-fault sh file c ≡ fault-of sh file
+  unfolding whole-fault
+  fault-sized e = cond-true (sized sh c) _ _ e
+
+  pub no-fault : (m : Counts) → Ok m ≡ rows-answer sh file → fault-of sh file ≡ None
+  no-fault m e = by-ok (fault-of sh file) counts m e .0
+
+  pub refused-unsized : sized sh c ≡ false → (Err Tables ≡ answer sh file c) × (c ≡ tables-after sh file c)
+  refused-unsized e = (sym (ap (λ o. answered o counts) (fault-unsized e)), sym (ap (λ o. unless o c (filled sh (entries (lines file)))) (fault-unsized e)))
+
+  pub refused-row : (f : FileFault) → sized sh c ≡ true → Err f ≡ rows-answer sh file → (Err f ≡ answer sh file c) × (c ≡ tables-after sh file c)
+  refused-row f e told =
+      let is = fault-sized e ∙ by-err (fault-of sh file) counts f told in
+      (sym (ap (λ o. answered o counts) is), sym (ap (λ o. unless o c (filled sh (entries (lines file)))) is))
+
+  pub taken : (m : Counts) (d : Contents) → sized sh c ≡ true → Ok m ≡ rows-answer sh file → d ≡ filled sh (entries (lines file)) → (Ok m ≡ answer sh file c) × (d ≡ tables-after sh file c)
+  taken m d e told full =
+      let none = fault-sized e ∙ no-fault m told in
+      (told ∙ ap (λ o. answered o counts) (sym (fault-sized e)), full ∙ sym (ap (λ o. unless o c (filled sh (entries (lines file)))) none))

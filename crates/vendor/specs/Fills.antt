@@ -1,0 +1,86 @@
+-- One row written into the tables, and all rows one after another. Assumes nothing.
+use mathlib.Core.Path.{_≡_}
+use mathlib.Core.List.{List, [], _∷_}
+use Prim.Native.Nat.{ℕ, _+_, _*_, _≤_, _<_}
+use lib.IntN.{ℤ, pos}
+use lib.ListN.{length, set, replicate}
+use denote.Ref.{name}
+use Rattle.std.specs.declared.option.Option.{Option}
+use Rattle.std.specs.declared.option.Option.the-variants.{Some, None}
+use Rattle.vendor.specs.declared.rows.Shape.{Shape}
+use Rattle.vendor.specs.declared.rows.Entry.{Entry}
+use Rattle.vendor.specs.declared.rows.Entry.the-variants.{Output, System, Line, Ramp}
+use Rattle.vendor.specs.declared.tables.Tables.{Tables}
+use Rattle.vendor.specs.declared.tables.Counts.{Counts}
+use Rattle.vendor.specs.declared.rows.Last.{Last}
+use Rattle.vendor.specs.Rows as rows
+use Rattle.vendor.specs.Rows.{row-fault}
+use Rattle.vendor.specs.Files.{Contents, contents, place, cell, mark-told, output-told, system-told, upper-told, lower-told, rise-told, fall-told}
+
+-- the same memory is lent before and after
+pub record Same-places (before after : Tables) : Type 0 where
+  pub marks : name (after .marks) ≡ name (before .marks)
+  pub outputs : name (after .outputs) ≡ name (before .outputs)
+  pub system : name (after .system) ≡ name (before .system)
+  pub upper : name (after .upper) ≡ name (before .upper)
+  pub lower : name (after .lower) ≡ name (before .lower)
+  pub rise : name (after .rise) ≡ name (before .rise)
+  pub fall : name (after .fall) ≡ name (before .fall)
+
+-- every cell zero
+abbrev pub cleared : Contents → Contents
+cleared c = record {
+    marks = replicate (length (c .marks)) 0;
+    outputs = replicate (length (c .outputs)) (pos 0);
+    system = replicate (length (c .system)) (pos 0);
+    upper = replicate (length (c .upper)) (pos 0);
+    lower = replicate (length (c .lower)) (pos 0);
+    rise = replicate (length (c .rise)) (pos 0);
+    fall = replicate (length (c .fall)) (pos 0);
+  }
+
+-- a table after a row that tells this
+abbrev pub put : {A : Type 0} → Option (ℕ × A) → List A → List A
+put None xs = xs
+put (Some p) xs = set xs (p .0) (p .1)
+
+-- the tables after one row
+abbrev pub written : Shape → Entry → Contents → Contents
+written sh e c = record {
+    marks = put (mark-told sh e) (c .marks);
+    outputs = put (output-told sh e) (c .outputs);
+    system = put (system-told sh e) (c .system);
+    upper = put (upper-told sh e) (c .upper);
+    lower = put (lower-told sh e) (c .lower);
+    rise = put (rise-told sh e) (c .rise);
+    fall = put (fall-told sh e) (c .fall);
+  }
+
+-- the cells that a row names are there
+abbrev pub Names-a-cell : Shape → Entry → Type 0
+Names-a-cell sh (Output row period mark output) = (1 ≤ period) × (cell sh row period < sh .size * sh .periods)
+Names-a-cell sh (System period price) = (1 ≤ period) × (period ≤ sh .periods)
+Names-a-cell sh (Line line period upper lower) = (1 ≤ period) × (cell sh line period < sh .lines * sh .periods)
+Names-a-cell sh (Ramp row period rise fall) = (1 ≤ period) × (cell sh row period < sh .size * sh .periods)
+
+-- every table of its exact length
+pub record Sized (sh : Shape) (c : Contents) : Type 0 where
+  pub marks : length (c .marks) ≡ sh .size * sh .periods
+  pub outputs : length (c .outputs) ≡ sh .size * sh .periods
+  pub system : length (c .system) ≡ sh .periods
+  pub upper : length (c .upper) ≡ sh .lines * sh .periods
+  pub lower : length (c .lower) ≡ sh .lines * sh .periods
+  pub rise : length (c .rise) ≡ sh .size * sh .periods
+  pub fall : length (c .fall) ≡ sh .size * sh .periods
+
+-- one row more can be counted
+pub record Room (c : Counts) : Type 0 where
+  pub outputs : c .outputs + 1 < 18446744073709551616
+  pub system : c .system + 1 < 18446744073709551616
+  pub lines : c .lines + 1 < 18446744073709551616
+  pub ramps : c .ramps + 1 < 18446744073709551616
+
+-- no row has a fault beside the row before it
+abbrev pub Faultless : Shape → Last → List rows.Line → Type 0
+Faultless sh last [] = Unit {0}
+Faultless sh last (l ∷ ls) = (row-fault sh last l ≡ None) × Faultless sh (place l) ls

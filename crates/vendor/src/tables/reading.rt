@@ -1,0 +1,66 @@
+// A whole file: one pass asks every question of every row, and a second writes the tables.
+ghost use mathlib.Core.Path.{_≡_};
+ghost use Rattle.std.specs.declared.option.Option.the-variants.{None};
+ghost use Rattle.vendor.specs.Files.{lines, entries, fault-of, rows-answer, answer, contents, filled, tables-after};
+ghost use Rattle.vendor.specs.Fills.{Same-places, Sized};
+use crate::faults::FileFault;
+use crate::reader::Reader;
+use crate::rows::Shape;
+use crate::tables::Counts;
+use crate::tables::Tables;
+
+// The rows of a file without fault, counted by letter, or the fault of its first faulty row.
+fn check(file: &[u8], shape: &Shape) -> Result<Counts, FileFault>
+    ensures { λ r. ⌜ r ≡ rows-answer (now (shape .entry)) (now (file .entry)) ⌝ }
+{
+    let mut reader = Reader::new(file);
+    let mut counts = Counts { outputs: 0, system: 0, lines: 0, ramps: 0 };
+    let mut row = 1;
+    loop {
+        let next = match reader.next_entry(shape) {
+            Ok(next) => next,
+            Err(fault) => return Err(FileFault::Row { row, fault }),
+        };
+        let Some(entry) = next else {
+            return Ok(counts);
+        };
+        counts.add(&entry);
+        row += 1;
+    }
+}
+
+// The tables of a file without fault: what its rows tell, and zero in every other cell.
+fn fill(file: &[u8], shape: &Shape, tables: &mut Tables)
+    requires { ⌜ fault-of (now shape) (now file) ≡ None ⌝ ∗ ⌜ Sized (now shape) (contents (now tables)) ⌝ }
+    ensures held { λ _. ⌜ contents (now (tables .exit)) ≡ filled (now (shape .entry)) (entries (lines (now (file .entry)))) ⌝ }
+    ensures places { λ _. ⌜ Same-places (now (tables .entry)) (now (tables .exit)) ⌝ }
+{
+    tables.clear();
+    let mut reader = Reader::new(file);
+    loop {
+        let Ok(next) = reader.next_entry(shape) else {
+            return;
+        };
+        let Some(entry) = next else {
+            return;
+        };
+        tables.write(shape, &entry);
+    }
+}
+
+// Reads a file into the tables. A refused file leaves them as they were.
+pub fn read(file: &[u8], shape: &Shape, tables: &mut Tables) -> Result<Counts, FileFault>
+    ensures answer { λ r. ⌜ r ≡ answer (now (shape .entry)) (now (file .entry)) (contents (now (tables .entry))) ⌝ }
+    ensures held { λ _. ⌜ contents (now (tables .exit)) ≡ tables-after (now (shape .entry)) (now (file .entry)) (contents (now (tables .entry))) ⌝ }
+    ensures places { λ _. ⌜ Same-places (now (tables .entry)) (now (tables .exit)) ⌝ }
+{
+    if !tables.fit(shape) {
+        return Err(FileFault::Tables);
+    }
+    let counts = match check(file, shape) {
+        Ok(counts) => counts,
+        Err(fault) => return Err(fault),
+    };
+    fill(file, shape, tables);
+    Ok(counts)
+}
