@@ -17,9 +17,10 @@ use Rattle.std.proofs.shelf.Tests.{cond-true, cond-false, eq-eqb, ne-eqb, cases
 use Rattle.vendor.specs.declared.faults.RowFault.{RowFault}
 use Rattle.vendor.specs.declared.faults.FileFault.{FileFault}
 use Rattle.vendor.specs.declared.rows.Shape.{Shape}
+use Rattle.vendor.specs.declared.rows.Group.the-variants.{Outputs, System, Lines, Ramps}
 use Rattle.vendor.specs.declared.rows.Last.{Last}
 use Rattle.vendor.specs.declared.rows.Entry.{Entry}
-use Rattle.vendor.specs.Files.{lines, fault-of, place, row-or, fault-from, entries, after, after-all, table, Contents, sized, filled, mark-told, output-told, system-told, upper-told, lower-told, rise-told, fall-told}
+use Rattle.vendor.specs.Files.{lines, fault-of, place, row-or, fault-from, entries, after, after-all, table, Contents, sized, filled, told, first, second, first-natural}
 use Rattle.vendor.specs.declared.tables.Tables.{Tables}
 use Rattle.vendor.specs.Fills.{cleared, put, written, Sized, Faultless, Names-a-cell, Same-places}
 use Rattle.vendor.specs.Rows.{Line, fields, entry-of, place-of, row-fault, start}
@@ -62,46 +63,46 @@ module _ {A : Type 0} (told : Entry → Option (ℕ × A)) (n : ℕ) (zero : A) 
 
 -- the seven tables on their way
 pub record Filling (sh : Shape) (all : List Entry) (c : Contents) (ahead : List Entry) : Type 0 where
-  pub marks : Towards (mark-told sh) (sh .size * sh .periods) 0 all (c .marks) ahead
-  pub outputs : Towards (output-told sh) (sh .size * sh .periods) (pos 0) all (c .outputs) ahead
-  pub system : Towards (system-told sh) (sh .periods) (pos 0) all (c .system) ahead
-  pub upper : Towards (upper-told sh) (sh .lines * sh .periods) (pos 0) all (c .upper) ahead
-  pub lower : Towards (lower-told sh) (sh .lines * sh .periods) (pos 0) all (c .lower) ahead
-  pub rise : Towards (rise-told sh) (sh .size * sh .periods) (pos 0) all (c .rise) ahead
-  pub fall : Towards (fall-told sh) (sh .size * sh .periods) (pos 0) all (c .fall) ahead
+  pub marks : Towards (told sh Outputs first-natural) (sh .size * sh .periods) 0 all (c .marks) ahead
+  pub outputs : Towards (told sh Outputs second) (sh .size * sh .periods) (pos 0) all (c .outputs) ahead
+  pub system : Towards (told sh System first) (sh .periods) (pos 0) all (c .system) ahead
+  pub upper : Towards (told sh Lines first) (sh .lines * sh .periods) (pos 0) all (c .upper) ahead
+  pub lower : Towards (told sh Lines second) (sh .lines * sh .periods) (pos 0) all (c .lower) ahead
+  pub rise : Towards (told sh Ramps first) (sh .size * sh .periods) (pos 0) all (c .rise) ahead
+  pub fall : Towards (told sh Ramps second) (sh .size * sh .periods) (pos 0) all (c .fall) ahead
 
 module _ (sh : Shape) (all : List Entry) where
   pub filling-none : (c : Contents) → Sized sh c → Filling sh all (cleared c) all
   filling-none c s = record {
-      marks = towards-none (mark-told sh) _ 0 _ (s .marks) all;
-      outputs = towards-none (output-told sh) _ (pos 0) _ (s .outputs) all;
-      system = towards-none (system-told sh) _ (pos 0) _ (s .system) all;
-      upper = towards-none (upper-told sh) _ (pos 0) _ (s .upper) all;
-      lower = towards-none (lower-told sh) _ (pos 0) _ (s .lower) all;
-      rise = towards-none (rise-told sh) _ (pos 0) _ (s .rise) all;
-      fall = towards-none (fall-told sh) _ (pos 0) _ (s .fall) all;
+      marks = towards-none (told sh Outputs first-natural) _ 0 _ (s .marks) all;
+      outputs = towards-none (told sh Outputs second) _ (pos 0) _ (s .outputs) all;
+      system = towards-none (told sh System first) _ (pos 0) _ (s .system) all;
+      upper = towards-none (told sh Lines first) _ (pos 0) _ (s .upper) all;
+      lower = towards-none (told sh Lines second) _ (pos 0) _ (s .lower) all;
+      rise = towards-none (told sh Ramps first) _ (pos 0) _ (s .rise) all;
+      fall = towards-none (told sh Ramps second) _ (pos 0) _ (s .fall) all;
     }
 
   pub filling-more : (c : Contents) (e : Entry) (ahead : List Entry) → Filling sh all c (e ∷ ahead) → Filling sh all (written sh e c) ahead
   filling-more c e ahead f = record {
-      marks = towards-more (mark-told sh) _ 0 all _ e ahead (f .marks);
-      outputs = towards-more (output-told sh) _ (pos 0) all _ e ahead (f .outputs);
-      system = towards-more (system-told sh) _ (pos 0) all _ e ahead (f .system);
-      upper = towards-more (upper-told sh) _ (pos 0) all _ e ahead (f .upper);
-      lower = towards-more (lower-told sh) _ (pos 0) all _ e ahead (f .lower);
-      rise = towards-more (rise-told sh) _ (pos 0) all _ e ahead (f .rise);
-      fall = towards-more (fall-told sh) _ (pos 0) all _ e ahead (f .fall);
+      marks = towards-more (told sh Outputs first-natural) _ 0 all _ e ahead (f .marks);
+      outputs = towards-more (told sh Outputs second) _ (pos 0) all _ e ahead (f .outputs);
+      system = towards-more (told sh System first) _ (pos 0) all _ e ahead (f .system);
+      upper = towards-more (told sh Lines first) _ (pos 0) all _ e ahead (f .upper);
+      lower = towards-more (told sh Lines second) _ (pos 0) all _ e ahead (f .lower);
+      rise = towards-more (told sh Ramps first) _ (pos 0) all _ e ahead (f .rise);
+      fall = towards-more (told sh Ramps second) _ (pos 0) all _ e ahead (f .fall);
     }
 
   pub filling-all : (c : Contents) → Filling sh all c [] → c ≡ filled sh all
   filling-all c f = λ j. record {
-      marks = towards-all (mark-told sh) _ 0 all _ (f .marks) j;
-      outputs = towards-all (output-told sh) _ (pos 0) all _ (f .outputs) j;
-      system = towards-all (system-told sh) _ (pos 0) all _ (f .system) j;
-      upper = towards-all (upper-told sh) _ (pos 0) all _ (f .upper) j;
-      lower = towards-all (lower-told sh) _ (pos 0) all _ (f .lower) j;
-      rise = towards-all (rise-told sh) _ (pos 0) all _ (f .rise) j;
-      fall = towards-all (fall-told sh) _ (pos 0) all _ (f .fall) j;
+      marks = towards-all (told sh Outputs first-natural) _ 0 all _ (f .marks) j;
+      outputs = towards-all (told sh Outputs second) _ (pos 0) all _ (f .outputs) j;
+      system = towards-all (told sh System first) _ (pos 0) all _ (f .system) j;
+      upper = towards-all (told sh Lines first) _ (pos 0) all _ (f .upper) j;
+      lower = towards-all (told sh Lines second) _ (pos 0) all _ (f .lower) j;
+      rise = towards-all (told sh Ramps first) _ (pos 0) all _ (f .rise) j;
+      fall = towards-all (told sh Ramps second) _ (pos 0) all _ (f .fall) j;
     }
 
   pub filling-sized : (c : Contents) (ahead : List Entry) → Filling sh all c ahead → Sized sh c

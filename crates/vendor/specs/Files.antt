@@ -18,12 +18,15 @@ use Rattle.vendor.specs.declared.faults.FileFault.the-variants.{Tables, Row}
 use Rattle.vendor.specs.declared.rows.Shape.{Shape}
 use Rattle.vendor.specs.declared.rows.Last.{Last}
 use Rattle.vendor.specs.declared.rows.Entry.{Entry}
-use Rattle.vendor.specs.declared.rows.Entry.the-variants.{Output, System, Line, Ramp}
+use Rattle.vendor.specs.declared.rows.Entry.the-variants.{Output, Line, Ramp}
+use Rattle.vendor.specs.declared.rows.Entry.the-variants as entry
+use Rattle.vendor.specs.declared.rows.Group.{Group}
+use Rattle.vendor.specs.declared.rows.Group.the-variants.{Outputs, System, Lines, Ramps}
 use Rattle.vendor.specs.declared.tables.Counts.{Counts}
 use Rattle.vendor.specs.declared.tables.Tables as tables
 use Rattle.vendor.specs.Pieces.{pieces}
 use Rattle.vendor.specs.Rows as rows
-use Rattle.vendor.specs.Rows.{fields, entry-of, place-of, start, row-fault}
+use Rattle.vendor.specs.Rows.{fields, natural, rank, entry-of, place-of, start, row-fault}
 
 -- what stands before each byte 10 is a row that it ended; what follows the last, if anything, is a row that none ended
 abbrev pub lines-of : List (List ℕ) → List rows.Line
@@ -59,48 +62,25 @@ entries ls = map (λ l. entry-of (fields l)) ls
 abbrev pub cell : Shape → ℕ → ℕ → ℕ
 cell sh item period = item * sh .periods + (period - 1)
 
--- which cell of a table a row names, and the number that it tells there
-abbrev pub mark-told : Shape → Entry → Option (ℕ × ℕ)
-mark-told sh (Output row period mark output) = Some (cell sh row period, mark)
-mark-told sh (System period price) = None
-mark-told sh (Line line period upper lower) = None
-mark-told sh (Ramp row period rise fall) = None
+-- a row's two numbers after its period: mark and output, upper and lower price, rise and fall price; an S row has one
+abbrev pub numbers-of : Entry → ℤ × ℤ
+numbers-of (Output row period mark output) = (pos mark, output)
+numbers-of (entry.System period price) = (price, pos 0)
+numbers-of (Line line period upper lower) = (upper, lower)
+numbers-of (Ramp row period rise fall) = (rise, fall)
 
-abbrev pub output-told : Shape → Entry → Option (ℕ × ℤ)
-output-told sh (Output row period mark output) = Some (cell sh row period, output)
-output-told sh (System period price) = None
-output-told sh (Line line period upper lower) = None
-output-told sh (Ramp row period rise fall) = None
+abbrev pub first : ℤ × ℤ → ℤ
+first p = p .0
 
-abbrev pub system-told : Shape → Entry → Option (ℕ × ℤ)
-system-told sh (Output row period mark output) = None
-system-told sh (System period price) = Some (period - 1, price)
-system-told sh (Line line period upper lower) = None
-system-told sh (Ramp row period rise fall) = None
+abbrev pub second : ℤ × ℤ → ℤ
+second p = p .1
 
-abbrev pub upper-told : Shape → Entry → Option (ℕ × ℤ)
-upper-told sh (Output row period mark output) = None
-upper-told sh (System period price) = None
-upper-told sh (Line line period upper lower) = Some (cell sh line period, upper)
-upper-told sh (Ramp row period rise fall) = None
+abbrev pub first-natural : ℤ × ℤ → ℕ
+first-natural p = natural (p .0)
 
-abbrev pub lower-told : Shape → Entry → Option (ℕ × ℤ)
-lower-told sh (Output row period mark output) = None
-lower-told sh (System period price) = None
-lower-told sh (Line line period upper lower) = Some (cell sh line period, lower)
-lower-told sh (Ramp row period rise fall) = None
-
-abbrev pub rise-told : Shape → Entry → Option (ℕ × ℤ)
-rise-told sh (Output row period mark output) = None
-rise-told sh (System period price) = None
-rise-told sh (Line line period upper lower) = None
-rise-told sh (Ramp row period rise fall) = Some (cell sh row period, rise)
-
-abbrev pub fall-told : Shape → Entry → Option (ℕ × ℤ)
-fall-told sh (Output row period mark output) = None
-fall-told sh (System period price) = None
-fall-told sh (Line line period upper lower) = None
-fall-told sh (Ramp row period rise fall) = Some (cell sh row period, fall)
+-- which cell a row names in a table of its letter, and what it tells there; rows of other letters name none
+abbrev pub told : {A : Type 0} → Shape → Group → (ℤ × ℤ → A) → Entry → Option (ℕ × A)
+told sh g pick e = cond (eqb (rank g) (rank (place-of e .group))) (Some (cell sh (place-of e .index) (place-of e .period), pick (numbers-of e))) None
 
 -- a cell that held x, after a row that tells this
 abbrev pub after : {A : Type 0} → Option (ℕ × A) → ℕ → A → A
@@ -139,19 +119,19 @@ sized sh c =
 -- what the tables hold after a file of these rows was taken
 abbrev pub filled : Shape → List Entry → Contents
 filled sh es = record {
-    marks = table (mark-told sh) (sh .size * sh .periods) 0 es;
-    outputs = table (output-told sh) (sh .size * sh .periods) (pos 0) es;
-    system = table (system-told sh) (sh .periods) (pos 0) es;
-    upper = table (upper-told sh) (sh .lines * sh .periods) (pos 0) es;
-    lower = table (lower-told sh) (sh .lines * sh .periods) (pos 0) es;
-    rise = table (rise-told sh) (sh .size * sh .periods) (pos 0) es;
-    fall = table (fall-told sh) (sh .size * sh .periods) (pos 0) es;
+    marks = table (told sh Outputs first-natural) (sh .size * sh .periods) 0 es;
+    outputs = table (told sh Outputs second) (sh .size * sh .periods) (pos 0) es;
+    system = table (told sh System first) (sh .periods) (pos 0) es;
+    upper = table (told sh Lines first) (sh .lines * sh .periods) (pos 0) es;
+    lower = table (told sh Lines second) (sh .lines * sh .periods) (pos 0) es;
+    rise = table (told sh Ramps first) (sh .size * sh .periods) (pos 0) es;
+    fall = table (told sh Ramps second) (sh .size * sh .periods) (pos 0) es;
   }
 
 -- how many rows there are of each letter
 abbrev pub one-more : Entry → Counts → Counts
 one-more (Output row period mark output) c = record { outputs = c .outputs + 1; system = c .system; lines = c .lines; ramps = c .ramps }
-one-more (System period price) c = record { outputs = c .outputs; system = c .system + 1; lines = c .lines; ramps = c .ramps }
+one-more (entry.System period price) c = record { outputs = c .outputs; system = c .system + 1; lines = c .lines; ramps = c .ramps }
 one-more (Line line period upper lower) c = record { outputs = c .outputs; system = c .system; lines = c .lines + 1; ramps = c .ramps }
 one-more (Ramp row period rise fall) c = record { outputs = c .outputs; system = c .system; lines = c .lines; ramps = c .ramps + 1 }
 

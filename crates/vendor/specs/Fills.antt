@@ -9,13 +9,15 @@ use Rattle.std.specs.declared.option.Option.{Option}
 use Rattle.std.specs.declared.option.Option.the-variants.{Some, None}
 use Rattle.vendor.specs.declared.rows.Shape.{Shape}
 use Rattle.vendor.specs.declared.rows.Entry.{Entry}
-use Rattle.vendor.specs.declared.rows.Entry.the-variants.{Output, System, Line, Ramp}
+use Rattle.vendor.specs.declared.rows.Entry.the-variants.{Output, Line, Ramp}
+use Rattle.vendor.specs.declared.rows.Entry.the-variants as entry
+use Rattle.vendor.specs.declared.rows.Group.the-variants.{Outputs, System, Lines, Ramps}
 use Rattle.vendor.specs.declared.tables.Tables.{Tables}
 use Rattle.vendor.specs.declared.tables.Counts.{Counts}
 use Rattle.vendor.specs.declared.rows.Last.{Last}
 use Rattle.vendor.specs.Rows as rows
 use Rattle.vendor.specs.Rows.{row-fault}
-use Rattle.vendor.specs.Files.{Contents, contents, place, cell, mark-told, output-told, system-told, upper-told, lower-told, rise-told, fall-told}
+use Rattle.vendor.specs.Files.{Contents, contents, place, cell, told, first, second, first-natural}
 
 -- the same memory is lent before and after
 pub record Same-places (before after : Tables) : Type 0 where
@@ -47,19 +49,19 @@ put (Some p) xs = set xs (p .0) (p .1)
 -- the tables after one row
 abbrev pub written : Shape → Entry → Contents → Contents
 written sh e c = record {
-    marks = put (mark-told sh e) (c .marks);
-    outputs = put (output-told sh e) (c .outputs);
-    system = put (system-told sh e) (c .system);
-    upper = put (upper-told sh e) (c .upper);
-    lower = put (lower-told sh e) (c .lower);
-    rise = put (rise-told sh e) (c .rise);
-    fall = put (fall-told sh e) (c .fall);
+    marks = put (told sh Outputs first-natural e) (c .marks);
+    outputs = put (told sh Outputs second e) (c .outputs);
+    system = put (told sh System first e) (c .system);
+    upper = put (told sh Lines first e) (c .upper);
+    lower = put (told sh Lines second e) (c .lower);
+    rise = put (told sh Ramps first e) (c .rise);
+    fall = put (told sh Ramps second e) (c .fall);
   }
 
 -- the cells that a row names are there
 abbrev pub Names-a-cell : Shape → Entry → Type 0
 Names-a-cell sh (Output row period mark output) = (1 ≤ period) × (cell sh row period < sh .size * sh .periods)
-Names-a-cell sh (System period price) = (1 ≤ period) × (period ≤ sh .periods)
+Names-a-cell sh (entry.System period price) = (1 ≤ period) × (period ≤ sh .periods)
 Names-a-cell sh (Line line period upper lower) = (1 ≤ period) × (cell sh line period < sh .lines * sh .periods)
 Names-a-cell sh (Ramp row period rise fall) = (1 ≤ period) × (cell sh row period < sh .size * sh .periods)
 
