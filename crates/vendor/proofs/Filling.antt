@@ -3,7 +3,7 @@ use mathlib.Core.Path.{_≡_, refl, sym, ap, subst, _∙_}
 use mathlib.Core.Bool.{cond}
 use mathlib.Core.Logic.{⊎-elim}
 use mathlib.Core.List.{List, [], _∷_}
-use Prim.Native.Nat.{ℕ, _+_, _*_, _<_}
+use Prim.Native.Nat.{ℕ, _+_, _*_, _≤_, _<_}
 use native.Mathlib.Omega.{arith}
 use lib.Dec.{eqb}
 use lib.IntN.{ℤ, pos}
@@ -13,16 +13,16 @@ use Rattle.std.specs.declared.option.Option.the-variants.{Some, None}
 use Rattle.std.proofs.shelf.Counted.{fill-by-all}
 use Rattle.std.proofs.shelf.Lists.{getD-set-same, getD-set-other, getD-replicate, length-set, length-replicate}
 use mathlib.Core.Bool.{true}
-use Rattle.std.proofs.shelf.Tests.{cond-true, cond-false, eq-eqb, ne-eqb, cases-eq, and-parts, eqb-true}
+use Rattle.std.proofs.shelf.Tests.{cond-true, cond-false, eq-eqb, ne-eqb, cases-eq, and-parts, eqb-true, leb-true}
 use Rattle.vendor.specs.declared.faults.RowFault.{RowFault}
 use Rattle.vendor.specs.declared.faults.FileFault.{FileFault}
 use Rattle.vendor.specs.declared.rows.Shape.{Shape}
 use Rattle.vendor.specs.declared.rows.Group.the-variants.{Outputs, System, Lines, Ramps}
 use Rattle.vendor.specs.declared.rows.Last.{Last}
 use Rattle.vendor.specs.declared.rows.Entry.{Entry}
-use Rattle.vendor.specs.Files.{lines, fault-of, place, row-or, fault-from, entries, after, after-all, table, Contents, sized, filled, told, first, second, first-natural}
+use Rattle.vendor.specs.Files.{lines, fault-of, place, row-or, fault-from, entries, after, after-all, table, Contents, Right-lengths, sized, filled, told, first, second, first-natural}
 use Rattle.vendor.specs.declared.tables.Tables.{Tables}
-use Rattle.vendor.specs.Fills.{cleared, put, written, Sized, Faultless, Names-a-cell, Same-places}
+use Rattle.vendor.specs.Fills.{cleared, put, written, Faultless, Names-a-cell, Same-places}
 use Rattle.vendor.specs.Rows.{Line, fields, entry-of, place-of, row-fault, start}
 use Rattle.vendor.specs.Walks.{tail}
 use Rattle.vendor.proofs.Inside.{names-a-cell, lies-in}
@@ -63,6 +63,7 @@ module _ {A : Type 0} (told : Entry → Option (ℕ × A)) (n : ℕ) (zero : A) 
 
 -- the seven tables on their way
 pub record Filling (sh : Shape) (all : List Entry) (c : Contents) (ahead : List Entry) : Type 0 where
+  pub size : sh .size ≤ 32
   pub marks : Towards (told sh Outputs first-natural) (sh .size * sh .periods) 0 all (c .marks) ahead
   pub outputs : Towards (told sh Outputs second) (sh .size * sh .periods) (pos 0) all (c .outputs) ahead
   pub system : Towards (told sh System first) (sh .periods) (pos 0) all (c .system) ahead
@@ -72,8 +73,9 @@ pub record Filling (sh : Shape) (all : List Entry) (c : Contents) (ahead : List 
   pub fall : Towards (told sh Ramps second) (sh .size * sh .periods) (pos 0) all (c .fall) ahead
 
 module _ (sh : Shape) (all : List Entry) where
-  pub filling-none : (c : Contents) → Sized sh c → Filling sh all (cleared c) all
+  pub filling-none : (c : Contents) → Right-lengths sh c → Filling sh all (cleared c) all
   filling-none c s = record {
+      size = s .size;
       marks = towards-none (told sh Outputs first-natural) _ 0 _ (s .marks) all;
       outputs = towards-none (told sh Outputs second) _ (pos 0) _ (s .outputs) all;
       system = towards-none (told sh System first) _ (pos 0) _ (s .system) all;
@@ -85,6 +87,7 @@ module _ (sh : Shape) (all : List Entry) where
 
   pub filling-more : (c : Contents) (e : Entry) (ahead : List Entry) → Filling sh all c (e ∷ ahead) → Filling sh all (written sh e c) ahead
   filling-more c e ahead f = record {
+      size = f .size;
       marks = towards-more (told sh Outputs first-natural) _ 0 all _ e ahead (f .marks);
       outputs = towards-more (told sh Outputs second) _ (pos 0) all _ e ahead (f .outputs);
       system = towards-more (told sh System first) _ (pos 0) all _ e ahead (f .system);
@@ -105,8 +108,9 @@ module _ (sh : Shape) (all : List Entry) where
       fall = towards-all (told sh Ramps second) _ (pos 0) all _ (f .fall) j;
     }
 
-  pub filling-sized : (c : Contents) (ahead : List Entry) → Filling sh all c ahead → Sized sh c
+  pub filling-sized : (c : Contents) (ahead : List Entry) → Filling sh all c ahead → Right-lengths sh c
   filling-sized c ahead f = record {
+      size = f .size;
       marks = f .marks .long;
       outputs = f .outputs .long;
       system = f .system .long;
@@ -124,7 +128,7 @@ pub faultless : (sh : Shape) (n : ℕ) (last : Last) (ls : List Line) → fault-
 faultless sh n last [] e = tt
 faultless sh n last (l ∷ ls) e = let r = no-row (row-fault sh last l) n _ e in (r .0, faultless sh (n + 1) (place l) ls (r .1))
 
-pub sized-parts : (sh : Shape) (c : Contents) → sized sh c ≡ true → Sized sh c
+pub sized-parts : (sh : Shape) (c : Contents) → sized sh c ≡ true → Right-lengths sh c
 sized-parts sh c e =
     let a = and-parts _ _ e in
     let b = and-parts _ _ (a .1) in
@@ -134,6 +138,7 @@ sized-parts sh c e =
     let h = and-parts _ _ (g .1) in
     let k = and-parts _ _ (h .1) in
     record {
+      size = leb-true _ _ (a .0);
       marks = eqb-true _ _ (b .0);
       outputs = eqb-true _ _ (d .0);
       system = eqb-true _ _ (f .0);
@@ -174,7 +179,7 @@ pub record Writing (sh : Shape) (file : List ℕ) (last : Last) (ahead : List Li
   pub tables : Filling sh (entries (lines file)) c (entries ahead)
 
 module _ (sh : Shape) (file : List ℕ) where
-  pub writing-none : (last : Last) (ahead : List Line) (c d : Contents) → fault-of sh file ≡ None → Sized sh c → last ≡ start → ahead ≡ lines file → d ≡ cleared c → Writing sh file last ahead d
+  pub writing-none : (last : Last) (ahead : List Line) (c d : Contents) → fault-of sh file ≡ None → Right-lengths sh c → last ≡ start → ahead ≡ lines file → d ≡ cleared c → Writing sh file last ahead d
   writing-none last ahead c d none s first all clear =
       subst (λ l. Writing sh file l ahead d) (sym first) (subst (λ ls. Writing sh file start ls d) (sym all) (subst (Writing sh file start (lines file)) (sym clear)
       (record { sound = faultless sh 1 start (lines file) none; tables = filling-none sh (entries (lines file)) c s })))

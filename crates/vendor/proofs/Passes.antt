@@ -27,7 +27,6 @@ use Rattle.vendor.specs.declared.rows.Entry.the-variants.{Output, System, Ramp
 use Rattle.vendor.specs.declared.rows.Entry.the-variants as entry
 use Rattle.vendor.specs.Files as Files
 use Rattle.vendor.specs.Files.{lines, rows-answer, none-counted, lines-of, place, row-or, fault-from, entries, after, after-all, table, Contents, filled, answered, rows-answer-from, counted, one-more}
-use Rattle.vendor.specs.Fills.{cleared, put, written, Sized}
 use Rattle.vendor.specs.Pieces.{pieces, onto}
 use Rattle.vendor.specs.Rows.{Line, fields, entry-of, place-of, row-fault, start}
 use Rattle.vendor.specs.Walks.{entry-answer, none-or, tail}

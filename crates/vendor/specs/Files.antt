@@ -2,7 +2,7 @@
 use mathlib.Core.Path.{_≡_}
 use mathlib.Core.Bool.{Bool, true, false, cond, _&&_}
 use mathlib.Core.List.{List, [], _∷_, _++_, map}
-use Prim.Native.Nat.{ℕ, _+_, _*_, _-_, _<_}
+use Prim.Native.Nat.{ℕ, _+_, _*_, _-_, _≤_}
 use lib.Dec.{eqb, leb}
 use lib.IntN.{ℤ, pos}
 use lib.ListN.{length, getD}
@@ -110,6 +110,16 @@ abbrev pub contents : tables.Tables → Contents
 contents t = record { marks = t .marks .now; outputs = t .outputs .now; system = t .system .now; upper = t .upper .now; lower = t .lower .now; rise = t .rise .now; fall = t .fall .now }
 
 -- a size of at most 32, and every table of its exact length
+pub record Right-lengths (sh : Shape) (c : Contents) : Type 0 where
+  pub size : sh .size ≤ 32
+  pub marks : length (c .marks) ≡ sh .size * sh .periods
+  pub outputs : length (c .outputs) ≡ sh .size * sh .periods
+  pub system : length (c .system) ≡ sh .periods
+  pub upper : length (c .upper) ≡ sh .lines * sh .periods
+  pub lower : length (c .lower) ≡ sh .lines * sh .periods
+  pub rise : length (c .rise) ≡ sh .size * sh .periods
+  pub fall : length (c .fall) ≡ sh .size * sh .periods
+
 abbrev pub sized : Shape → Contents → Bool
 sized sh c =
     leb (sh .size) 32 && (eqb (length (c .marks)) (sh .size * sh .periods) && (eqb (length (c .outputs)) (sh .size * sh .periods)

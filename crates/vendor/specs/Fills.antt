@@ -65,16 +65,6 @@ Names-a-cell sh (entry.System period price) = (1 ≤ period) × (period ≤ sh .
 Names-a-cell sh (Line line period upper lower) = (1 ≤ period) × (cell sh line period < sh .lines * sh .periods)
 Names-a-cell sh (Ramp row period rise fall) = (1 ≤ period) × (cell sh row period < sh .size * sh .periods)
 
--- every table of its exact length
-pub record Sized (sh : Shape) (c : Contents) : Type 0 where
-  pub marks : length (c .marks) ≡ sh .size * sh .periods
-  pub outputs : length (c .outputs) ≡ sh .size * sh .periods
-  pub system : length (c .system) ≡ sh .periods
-  pub upper : length (c .upper) ≡ sh .lines * sh .periods
-  pub lower : length (c .lower) ≡ sh .lines * sh .periods
-  pub rise : length (c .rise) ≡ sh .size * sh .periods
-  pub fall : length (c .fall) ≡ sh .size * sh .periods
-
 -- one row more can be counted
 pub record Room (c : Counts) : Type 0 where
   pub outputs : c .outputs + 1 < 18446744073709551616

@@ -5,3 +5,4 @@ pub mod Rows
 pub mod Files
 pub mod Walks
 pub mod Fills
+pub mod Format

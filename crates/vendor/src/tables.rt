@@ -6,8 +6,8 @@ ghost use Prim.Native.Nat.{_+_, _≤_, _<_, _*_};
 ghost use lib.IntN.{pos};
 ghost use lib.Dec.{eqb};
 ghost use lib.ListN.{length, set, replicate};
-ghost use Rattle.vendor.specs.Files.{contents, sized, one-more};
-ghost use Rattle.vendor.specs.Fills.{Same-places, cleared, written, Names-a-cell, Sized, Room};
+ghost use Rattle.vendor.specs.Files.{Right-lengths, contents, sized, one-more};
+ghost use Rattle.vendor.specs.Fills.{Same-places, cleared, written, Names-a-cell, Room};
 use crate::rows::Entry;
 use crate::rows::Shape;
 
@@ -78,7 +78,7 @@ impl Tables<'_> {
 
     // A row's numbers into the cells that it names.
     fn write(&mut self, shape: &Shape, entry: &Entry)
-        requires { ⌜ Names-a-cell (now shape) (now entry) ⌝ ∗ ⌜ Sized (now shape) (contents (now self)) ⌝ }
+        requires { ⌜ Names-a-cell (now shape) (now entry) ⌝ ∗ ⌜ Right-lengths (now shape) (contents (now self)) ⌝ }
         ensures held { λ _. ⌜ contents (now (self .exit)) ≡ written (now (shape .entry)) (now (entry .entry)) (contents (now (self .entry))) ⌝ }
         ensures places { λ _. ⌜ Same-places (now (self .entry)) (now (self .exit)) ⌝ }
     {

@@ -1,8 +1,8 @@
 // A whole file: one pass asks every question of every row, and a second writes the tables.
 ghost use mathlib.Core.Path.{_≡_};
 ghost use Rattle.std.specs.declared.option.Option.the-variants.{None};
-ghost use Rattle.vendor.specs.Files.{lines, entries, fault-of, rows-answer, answer, contents, filled, tables-after};
-ghost use Rattle.vendor.specs.Fills.{Same-places, Sized};
+ghost use Rattle.vendor.specs.Files.{lines, entries, fault-of, rows-answer, answer, contents, filled, tables-after, Right-lengths};
+ghost use Rattle.vendor.specs.Fills.{Same-places};
 use crate::faults::FileFault;
 use crate::reader::Reader;
 use crate::rows::Shape;
@@ -31,7 +31,7 @@ fn check(file: &[u8], shape: &Shape) -> Result<Counts, FileFault>
 
 // The tables of a file without fault: what its rows tell, and zero in every other cell.
 fn fill(file: &[u8], shape: &Shape, tables: &mut Tables)
-    requires { ⌜ fault-of (now shape) (now file) ≡ None ⌝ ∗ ⌜ Sized (now shape) (contents (now tables)) ⌝ }
+    requires { ⌜ fault-of (now shape) (now file) ≡ None ⌝ ∗ ⌜ Right-lengths (now shape) (contents (now tables)) ⌝ }
     ensures held { λ _. ⌜ contents (now (tables .exit)) ≡ filled (now (shape .entry)) (entries (lines (now (file .entry)))) ⌝ }
     ensures places { λ _. ⌜ Same-places (now (tables .entry)) (now (tables .exit)) ⌝ }
 {
