@@ -6,3 +6,4 @@ pub mod Passes
 pub mod Inside
 pub mod Filling
 pub mod Outcome
+pub mod Judging

@@ -1,18 +1,24 @@
 -- How a whole file is answered, by its size and its first faulty row. Assumes nothing.
-use mathlib.Core.Path.{_≡_, refl, sym, ap, _∙_}
+use mathlib.Core.Path.{_≡_, refl, sym, ap, subst, _∙_}
 use mathlib.Core.Bool.{Bool, true, false, cond}
 use mathlib.Core.List.{List}
 use Prim.Native.Nat.{ℕ}
 use native.Mathlib.Omega.{arith}
 use Rattle.std.specs.declared.option.Option.{Option}
 use Rattle.std.specs.declared.option.Option.the-variants.{Some, None}
+use Rattle.std.specs.declared.result.Result.{Result}
 use Rattle.std.specs.declared.result.Result.the-variants.{Ok, Err}
-use Rattle.std.proofs.shelf.Tests.{cond-true, cond-false}
+use Rattle.std.proofs.shelf.Tests.{cond-true, cond-false, and-from, le-leb, eq-eqb, both-ways}
 use Rattle.vendor.specs.declared.faults.FileFault.{FileFault}
 use Rattle.vendor.specs.declared.faults.FileFault.the-variants.{Tables}
 use Rattle.vendor.specs.declared.rows.Shape.{Shape}
 use Rattle.vendor.specs.declared.tables.Counts.{Counts}
-use Rattle.vendor.specs.Files.{lines, entries, counted, none-counted, answered, unless, Contents, sized, filled, fault-of, rows-answer, whole-fault, answer, tables-after}
+use Rattle.vendor.specs.Files.{lines, entries, counted, none-counted, answered, unless, Contents, Right-lengths, sized, filled, fault-of, rows-answer, whole-fault, answer, tables-after}
+use Rattle.vendor.specs.Format as Format
+use Rattle.vendor.specs.Format.{Answered, wrong-lengths, faulty}
+use Rattle.vendor.specs.Rows.{start}
+use Rattle.vendor.proofs.Filling.{faultless, sized-parts}
+use Rattle.vendor.proofs.Judging.{first-faulty, all-sound, tables-hold}
 
 by-err : (o : Option FileFault) (n : Counts) (f : FileFault) → Err f ≡ answered o n → o ≡ Some f
 by-err None n f e = let z : _≡_ {A = ℕ} 0 1 = cc in absurd (omega arith)
@@ -49,3 +55,34 @@ module _ (sh : Shape) (file : List ℕ) (c : Contents) where
   taken m d e told full =
       let none = fault-sized e ∙ no-fault m told in
       (told ∙ ap (λ o. answered o counts) (sym (fault-sized e)), full ∙ sym (ap (λ o. unless o c (filled sh (entries (lines file)))) none))
+
+sized-from : (sh : Shape) (c : Contents) → Right-lengths sh c → sized sh c ≡ true
+sized-from sh c r =
+    and-from _ _ (le-leb _ _ (r .size)) (and-from _ _ (eq-eqb _ _ (r .marks)) (and-from _ _ (eq-eqb _ _ (r .outputs)) (and-from _ _ (eq-eqb _ _ (r .system))
+    (and-from _ _ (eq-eqb _ _ (r .upper)) (and-from _ _ (eq-eqb _ _ (r .lower)) (and-from _ _ (eq-eqb _ _ (r .rise)) (eq-eqb _ _ (r .fall))))))))
+
+-- the answer and the tables after it are those that the format asks for
+module _ (sh : Shape) (file : List ℕ) (c : Contents) where
+  means-refused : (g : FileFault) → sized sh c ≡ true → fault-of sh file ≡ Some g → Answered sh file c (Err g) c
+  means-refused g fit e =
+      let r = first-faulty sh file g e in
+      subst (λ x. Answered sh file c (Err x) c) (sym (r .2)) (faulty (r .0) (r .1) (sized-parts sh c fit) (r .3))
+
+  means-taken : sized sh c ≡ true → fault-of sh file ≡ None → Answered sh file c (Ok (counts sh file c)) (filled sh (entries (lines file)))
+  means-taken fit e =
+      let h = faultless sh 1 start (lines file) e in
+      Format.taken (filled sh (entries (lines file))) (sized-parts sh c fit) (all-sound sh file h) (tables-hold sh file h)
+
+  means-sized : (o : Option FileFault) → sized sh c ≡ true → fault-of sh file ≡ o → Answered sh file c (answered o (counts sh file c)) (unless o c (filled sh (entries (lines file))))
+  means-sized None fit e = means-taken fit e
+  means-sized (Some g) fit e = means-refused g fit e
+
+  means-by : (b : Bool) → sized sh c ≡ b → Answered sh file c (answer sh file c) (tables-after sh file c)
+  means-by true fit =
+      subst (λ o. Answered sh file c (answered o (counts sh file c)) (unless o c (filled sh (entries (lines file))))) (sym (fault-sized sh file c fit)) (means-sized (fault-of sh file) fit refl)
+  means-by false fit =
+      subst (λ o. Answered sh file c (answered o (counts sh file c)) (unless o c (filled sh (entries (lines file))))) (sym (fault-unsized sh file c fit))
+      (wrong-lengths (λ r. both-ways (sized sh c) fit (sized-from sh c r)))
+
+  pub means : (r : Result Counts FileFault) (d : Contents) → r ≡ answer sh file c → d ≡ tables-after sh file c → Answered sh file c r d
+  means r d told held = subst (λ x. Answered sh file c x d) (sym told) (subst (Answered sh file c (answer sh file c)) (sym held) (means-by (sized sh c) refl))
