@@ -7,3 +7,4 @@ pub mod Inside
 pub mod Filling
 pub mod Outcome
 pub mod Judging
+pub mod Formats

@@ -10,14 +10,15 @@ use Rattle.std.specs.declared.result.Result.{Result}
 use Rattle.std.specs.declared.result.Result.the-variants.{Ok, Err}
 use Rattle.std.proofs.shelf.Tests.{cond-true, cond-false, and-from, le-leb, eq-eqb, both-ways}
 use Rattle.vendor.specs.declared.faults.FileFault.{FileFault}
-use Rattle.vendor.specs.declared.faults.FileFault.the-variants.{Tables}
+use Rattle.vendor.specs.declared.faults.FileFault.the-variants.{Whole}
 use Rattle.vendor.specs.declared.rows.Shape.{Shape}
 use Rattle.vendor.specs.declared.tables.Counts.{Counts}
 use Rattle.vendor.specs.Files.{lines, entries, counted, none-counted, answered, unless, Contents, Right-lengths, sized, filled, fault-of, rows-answer, whole-fault, answer, tables-after}
 use Rattle.vendor.specs.Format as Format
-use Rattle.vendor.specs.Format.{Answered, wrong-lengths, faulty}
+use Rattle.vendor.specs.Format.{Answered, wrong-lengths, faulty, Words-mean}
 use Rattle.vendor.specs.Rows.{start}
 use Rattle.vendor.proofs.Filling.{faultless, sized-parts}
+use Rattle.vendor.proofs.Formats.{pieces-between, numbers-decimal, rows-ended}
 use Rattle.vendor.proofs.Judging.{first-faulty, all-sound, tables-hold}
 
 by-err : (o : Option FileFault) (n : Counts) (f : FileFault) → Err f ≡ answered o n → o ≡ Some f
@@ -32,7 +33,7 @@ module _ (sh : Shape) (file : List ℕ) (c : Contents) where
   abbrev counts : Counts
   counts = counted none-counted (entries (lines file))
 
-  fault-unsized : sized sh c ≡ false → whole-fault sh file c ≡ Some Tables
+  fault-unsized : sized sh c ≡ false → whole-fault sh file c ≡ Some Whole
   unfolding whole-fault
   fault-unsized e = cond-false (sized sh c) _ _ e
 
@@ -43,7 +44,7 @@ module _ (sh : Shape) (file : List ℕ) (c : Contents) where
   pub no-fault : (m : Counts) → Ok m ≡ rows-answer sh file → fault-of sh file ≡ None
   no-fault m e = by-ok (fault-of sh file) counts m e .0
 
-  pub refused-unsized : sized sh c ≡ false → (Err Tables ≡ answer sh file c) × (c ≡ tables-after sh file c)
+  pub refused-unsized : sized sh c ≡ false → (Err Whole ≡ answer sh file c) × (c ≡ tables-after sh file c)
   refused-unsized e = (sym (ap (λ o. answered o counts) (fault-unsized e)), sym (ap (λ o. unless o c (filled sh (entries (lines file)))) (fault-unsized e)))
 
   pub refused-row : (f : FileFault) → sized sh c ≡ true → Err f ≡ rows-answer sh file → (Err f ≡ answer sh file c) × (c ≡ tables-after sh file c)
@@ -86,3 +87,6 @@ module _ (sh : Shape) (file : List ℕ) (c : Contents) where
 
   pub means : (r : Result Counts FileFault) (d : Contents) → r ≡ answer sh file c → d ≡ tables-after sh file c → Answered sh file c r d
   means r d told held = subst (λ x. Answered sh file c x d) (sym told) (subst (Answered sh file c (answer sh file c)) (sym held) (means-by (sized sh c) refl))
+
+pub words-mean : Words-mean
+words-mean = record { pieces = pieces-between; numbers = numbers-decimal; rows = rows-ended }

@@ -73,15 +73,15 @@ pub number-answer : (sh : Shape) (last : Last) (ls : List Line) (row : Row) (f :
 number-answer sh last [] row f handed told = let z : _≡_ {A = ℕ} 0 1 = cc in absurd (omega arith)
 number-answer sh last (l ∷ ls) row f handed told =
     let no-f = by-err (first-no (number-questions sh (fields-of row))) (entry-of (fields-of row)) f told in
-    sym (ap (λ o. none-or o (entry-of (fields l))) (number-fault sh last l f (handed .0) (ap (λ fs. first-no (number-questions sh fs)) (sym (handed .1)) ∙ no-f)))
+    sym (ap (λ o. none-or o (entry-of (fields l))) (number-fault sh last l f (handed .sound) (ap (λ fs. first-no (number-questions sh fs)) (sym (handed .parts)) ∙ no-f)))
 
 pub place-answer : (sh : Shape) (last : Last) (ls : List Line) (row : Row) (e : Entry) (yes-no : Bool) → Handed-on ls (Ok (Some row)) → Ok e ≡ numbers-answer sh (fields-of row) → yes-no ≡ follows last (place-of e)
   → cond yes-no (Ok (Some e)) (Err OutOfOrder) ≡ entry-answer sh last ls
 place-answer sh last [] row e b handed told placed = let z : _≡_ {A = ℕ} 0 1 = cc in absurd (omega arith)
 place-answer sh last (l ∷ ls) row e b handed told placed =
     let k = by-ok (first-no (number-questions sh (fields-of row))) (entry-of (fields-of row)) e told in
-    let same : e ≡ entry-of (fields l) = k .1 ∙ ap entry-of (handed .1) in
-    let fault = order-asked sh last l (handed .0) (ap (λ fs. first-no (number-questions sh fs)) (sym (handed .1)) ∙ k .0) in
+    let same : e ≡ entry-of (fields l) = k .1 ∙ ap entry-of (handed .parts) in
+    let fault = order-asked sh last l (handed .sound) (ap (λ fs. first-no (number-questions sh fs)) (sym (handed .parts)) ∙ k .0) in
     either b e (entry-of (fields l)) same ∙ sym (ap (λ o. none-or o (entry-of (fields l))) (fault ∙ ap (λ t. cond t None (Some OutOfOrder)) (sym (placed ∙ ap (λ x. follows last (place-of x)) same))))
   where
     either : (t : Bool) (x y : Entry) → x ≡ y → cond t (Ok (Some x)) (Err OutOfOrder) ≡ none-or (cond t None (Some OutOfOrder)) y

@@ -14,10 +14,12 @@ use Rattle.vendor.specs.declared.rows.Row.{Row}
 use Rattle.vendor.specs.declared.rows.Row.the-variants as row
 use Rattle.vendor.specs.declared.faults.RowFault.{RowFault}
 use Rattle.vendor.specs.Files.{lines, lines-of}
-use Rattle.vendor.specs.Pieces.{pieces, onto}
+use Rattle.std.specs.shelf.Lists.{All}
+use Rattle.vendor.specs.Pieces.{pieces, onto, joined-by, Lacks}
 use Rattle.vendor.specs.Rows.{Line, fields, fields-of, first-no}
 use Rattle.vendor.specs.Walks.{fields-left, letter-questions, Handed-on}
 use Rattle.vendor.proofs.Cuts.{cut-here, cut-last, some-left}
+use Rattle.vendor.proofs.Formats.{pieces-between}
 
 -- there is always a first piece
 onto-some : (b : ℕ) (ps : List (List ℕ)) → (q : List ℕ) × (qs : List (List ℕ)) × (onto b ps ≡ q ∷ qs)
@@ -95,7 +97,13 @@ module _ (file : List ℕ) (at n : ℕ) (later : List Line) (here : lines (drop 
   pub handed-on : (r : Row) → fields-of r ≡ fields-left file at (at + n) → Handed-on (lines (drop at file)) (Ok (Some r))
   handed-on r is =
       let same = is ∙ fields-here file at n in
-      subst (λ ls. Handed-on ls (Ok (Some r))) (sym here) (ap (λ fs. first-no (letter-questions fs)) (sym same) ∙ kind-known r, same)
+      let cut = pieces-between 59 (row-at file at n .bytes) .0 in
+      subst (λ ls. Handed-on ls (Ok (Some r))) (sym here) (record {
+        sound = ap (λ fs. first-no (letter-questions fs)) (sym same) ∙ kind-known r;
+        parts = same;
+        whole = ap (joined-by 59) same ∙ cut .whole;
+        clean = subst (All (Lacks 59)) (sym same) (cut .clean);
+      })
 
   pub refused : (e : RowFault) → first-no (letter-questions (fields-left file at (at + n))) ≡ Some e → Handed-on (lines (drop at file)) (Err e)
   refused e told = subst (λ ls. Handed-on ls (Err e)) (sym here) (ap (λ fs. first-no (letter-questions fs)) (sym (fields-here file at n)) ∙ told)

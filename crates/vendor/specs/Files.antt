@@ -14,7 +14,7 @@ use Rattle.std.specs.declared.result.Result.{Result}
 use Rattle.std.specs.declared.result.Result.the-variants.{Ok, Err}
 use Rattle.vendor.specs.declared.faults.RowFault.{RowFault}
 use Rattle.vendor.specs.declared.faults.FileFault.{FileFault}
-use Rattle.vendor.specs.declared.faults.FileFault.the-variants.{Tables, Row}
+use Rattle.vendor.specs.declared.faults.FileFault.the-variants.{Whole, Row}
 use Rattle.vendor.specs.declared.rows.Shape.{Shape}
 use Rattle.vendor.specs.declared.rows.Last.{Last}
 use Rattle.vendor.specs.declared.rows.Entry.{Entry}
@@ -154,7 +154,7 @@ none-counted = record { outputs = 0; system = 0; lines = 0; ramps = 0 }
 
 -- a file's fault: 8 first, then that of its first faulty row
 unfoldable pub whole-fault : Shape → List ℕ → Contents → Option FileFault
-whole-fault sh file c = cond (sized sh c) (fault-of sh file) (Some Tables)
+whole-fault sh file c = cond (sized sh c) (fault-of sh file) (Some Whole)
 
 abbrev pub answered : Option FileFault → Counts → Result Counts FileFault
 answered None c = Ok c

@@ -13,7 +13,7 @@ use Rattle.std.specs.declared.result.Result.{Result}
 use Rattle.std.specs.declared.result.Result.the-variants.{Ok, Err}
 use Rattle.vendor.specs.declared.faults.RowFault.{RowFault}
 use Rattle.vendor.specs.declared.faults.FileFault.{FileFault}
-use Rattle.vendor.specs.declared.faults.FileFault.the-variants.{Tables, Row}
+use Rattle.vendor.specs.declared.faults.FileFault.the-variants.{Whole, Row}
 use Rattle.vendor.specs.declared.rows.Shape.{Shape}
 use Rattle.vendor.specs.declared.rows.Last.{Last}
 use Rattle.vendor.specs.declared.rows.Entry.{Entry}
@@ -22,7 +22,7 @@ use Rattle.vendor.specs.declared.rows.Group.the-variants.{Outputs, System, Lin
 use Rattle.vendor.specs.declared.tables.Counts.{Counts}
 use Rattle.vendor.specs.Files.{lines, place, told, first, second, first-natural, Contents, Right-lengths, entries, counted, none-counted}
 use Rattle.vendor.specs.Numbers.{number}
-use Rattle.vendor.specs.Pieces.{Lacks}
+use Rattle.vendor.specs.Pieces.{Lacks, Pieces-are-what-stands-between}
 use Rattle.vendor.specs.Rows.{Line, fields, entry-of, start, row-fault}
 
 -- a number is written as decimals are, with at most 8 digits; each text writes one number at most, and each number has one text
@@ -32,6 +32,11 @@ pub record Written-as (bs : List ℕ) (z : ℤ) : Type 0 where
 
 abbrev pub Numbers-are-decimals : Type 0
 Numbers-are-decimals = (bs : List ℕ) (z : ℤ) → (number bs ≡ Some z → Written-as bs z) × (Written-as bs z → number bs ≡ Some z)
+
+-- how a text is answered: with the number that it writes, or with none where it writes none
+abbrev pub Read-as : List ℕ → Option ℤ → Type 0
+Read-as bs None = (z : ℤ) → Written-as bs z → ⊥
+Read-as bs (Some z) = Written-as bs z
 
 -- rows put together again: each with its byte 10, unless none ended it
 abbrev pub ends : Bool → List ℕ
@@ -97,6 +102,12 @@ pub record Tables-hold (sh : Shape) (file : List ℕ) (c : Contents) : Type 0 wh
 
 -- what a file is answered with, and what the tables hold before and after
 pub data Answered (sh : Shape) (file : List ℕ) (before : Contents) : Result Counts FileFault → Contents → Type 0 where
-  wrong-lengths : (Right-lengths sh before → ⊥) → Answered sh file before (Err Tables) before
+  wrong-lengths : (Right-lengths sh before → ⊥) → Answered sh file before (Err Whole) before
   faulty : (k : ℕ) (f : RowFault) → Right-lengths sh before → First-faulty sh file k f → Answered sh file before (Err (Row (k + 1) f)) before
   taken : (after : Contents) → Right-lengths sh before → All-sound sh file → Tables-hold sh file after → Answered sh file before (Ok (counted none-counted (entries (lines file)))) after
+
+-- the words that the page above rests on: pieces, numbers and rows are what the format calls so
+pub record Words-mean : Type 0 where
+  pub pieces : Pieces-are-what-stands-between
+  pub numbers : Numbers-are-decimals
+  pub rows : Rows-are-what-byte-10-ends

@@ -8,7 +8,8 @@ use lib.ListN.{length, take, drop}
 use Rattle.vendor.specs.declared.faults.RowFault.{RowFault}
 use Rattle.vendor.specs.declared.faults.RowFault.the-variants.{UnknownLetter, FieldCount}
 use Rattle.vendor.specs.declared.reader.Reader.{Reader}
-use Rattle.vendor.specs.Pieces.{pieces}
+use Rattle.std.specs.shelf.Lists.{All}
+use Rattle.vendor.specs.Pieces.{pieces, joined-by, Lacks}
 use Rattle.vendor.specs.declared.rows.Row.{Row}
 use Rattle.vendor.specs.Files.{lines}
 use Rattle.vendor.specs.declared.rows.Shape.{Shape}
@@ -42,10 +43,17 @@ abbrev pub tail : {A : Type 0} → List A → List A
 tail [] = []
 tail (x ∷ xs) = xs
 
--- what is handed on of a row: its fields, where it is ended, has a known letter and as many fields as that asks
+-- a row is handed on where it is ended, has a known letter and as many fields as that asks;
+-- its fields hold no semicolon, and joined with semicolons they are the row
+pub record Row-of (l : Line) (row : Row) : Type 0 where
+  pub sound : first-no (cut-questions l) ≡ None
+  pub parts : fields-of row ≡ fields l
+  pub whole : joined-by 59 (fields-of row) ≡ l .bytes
+  pub clean : All (Lacks 59) (fields-of row)
+
 abbrev pub Row-handed-on : Line → Option Row → Type 0
 Row-handed-on l None = ⊥
-Row-handed-on l (Some row) = (first-no (cut-questions l) ≡ None) × (fields-of row ≡ fields l)
+Row-handed-on l (Some row) = Row-of l row
 
 abbrev pub Handed-on : List Line → Result (Option Row) RowFault → Type 0
 Handed-on [] r = r ≡ Ok None

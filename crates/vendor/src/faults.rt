@@ -18,10 +18,10 @@ pub enum RowFault {
     OutOfOrder,
 }
 
-// `Tables` stands for the whole file; a row is counted from 1.
+// `Whole`: the size told or a table's length is not right, so no row was looked at. A row is counted from 1.
 #[derive(Clone, Copy, PartialEq, Eq, Debug)]
 pub enum FileFault {
-    Tables,
+    Whole,
     Row { row: usize, fault: RowFault },
 }
 
@@ -31,7 +31,7 @@ impl FileFault {
         ensures { λ r. ⌜ r ≡ number-of (now (self .entry)) ⌝ }
     {
         match self {
-            FileFault::Tables => 8,
+            FileFault::Whole => 8,
             FileFault::Row { fault: RowFault::UnknownLetter, .. } => 22,
             FileFault::Row { fault: RowFault::FieldCount, .. } => 23,
             FileFault::Row { fault: RowFault::Field(_), .. } => 24,
@@ -45,7 +45,7 @@ impl FileFault {
         ensures { λ r. ⌜ r ≡ row-of (now (self .entry)) ⌝ }
     {
         match self {
-            FileFault::Tables => 0,
+            FileFault::Whole => 0,
             FileFault::Row { row, .. } => *row,
         }
     }

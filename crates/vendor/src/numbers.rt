@@ -2,6 +2,7 @@
 ghost use mathlib.Core.Path.{_≡_};
 ghost use Prim.Native.Nat.{_<_};
 ghost use Rattle.std.specs.Options.{Cases};
+ghost use Rattle.vendor.specs.Format.{Read-as};
 ghost use Rattle.vendor.specs.Numbers.{number, magnitude-of};
 
 const MOST_DIGITS: usize = 8;
@@ -29,7 +30,8 @@ fn magnitude(digits: &[u8]) -> Option<u32>
 
 // The number that a field writes, or `None` where it writes none.
 pub fn parse(text: &[u8]) -> Option<i32>
-    ensures { λ r. ⌜ r ≡ number (now (text .entry)) ⌝ }
+    ensures meaning { λ r. ⌜ Read-as (now (text .entry)) r ⌝ }
+    ensures value { λ r. ⌜ r ≡ number (now (text .entry)) ⌝ }
 {
     if text.is_empty() || text[0] != b'-' {
         let Some(value) = magnitude(text) else {

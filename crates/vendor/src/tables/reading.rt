@@ -3,7 +3,7 @@ ghost use mathlib.Core.Path.{_≡_};
 ghost use Rattle.std.specs.declared.option.Option.the-variants.{None};
 ghost use Rattle.vendor.specs.Files.{lines, entries, fault-of, rows-answer, answer, contents, filled, tables-after, Right-lengths};
 ghost use Rattle.vendor.specs.Fills.{Same-places};
-ghost use Rattle.vendor.specs.Format.{Answered};
+ghost use Rattle.vendor.specs.Format.{Answered, Words-mean};
 use crate::faults::FileFault;
 use crate::reader::Reader;
 use crate::rows::Shape;
@@ -50,15 +50,16 @@ fn fill(file: &[u8], shape: &Shape, tables: &mut Tables)
 }
 
 // Reads a file into the tables. A refused file leaves them as they were.
-// `meaning` is the format's page; `answer` and `held` say the same as two functions of file, shape and tables.
+// `meaning` and `words` are the format's page; `answer` and `held` say it as two functions of file, shape and tables.
 pub fn read(file: &[u8], shape: &Shape, tables: &mut Tables) -> Result<Counts, FileFault>
     ensures meaning { λ r. ⌜ Answered (now (shape .entry)) (now (file .entry)) (contents (now (tables .entry))) r (contents (now (tables .exit))) ⌝ }
+    ensures words { λ _. ⌜ Words-mean ⌝ }
     ensures answer { λ r. ⌜ r ≡ answer (now (shape .entry)) (now (file .entry)) (contents (now (tables .entry))) ⌝ }
     ensures held { λ _. ⌜ contents (now (tables .exit)) ≡ tables-after (now (shape .entry)) (now (file .entry)) (contents (now (tables .entry))) ⌝ }
     ensures places { λ _. ⌜ Same-places (now (tables .entry)) (now (tables .exit)) ⌝ }
 {
     if !tables.fit(shape) {
-        return Err(FileFault::Tables);
+        return Err(FileFault::Whole);
     }
     let counts = match check(file, shape) {
         Ok(counts) => counts,
