@@ -14,20 +14,14 @@ use Rattle.vendor.specs.declared.faults.FileFault.the-variants.{Whole}
 use Rattle.vendor.specs.declared.rows.Shape.{Shape}
 use Rattle.vendor.specs.declared.tables.Counts.{Counts}
 use Rattle.vendor.specs.Files.{lines, entries, counted, none-counted, answered, unless, Contents, Right-lengths, sized, filled, fault-of, rows-answer, whole-fault, answer, tables-after}
+use Rattle.std.specs.Results.{Cases}
+use Rattle.vendor.specs.Fills.{Readable}
 use Rattle.vendor.specs.Format as Format
 use Rattle.vendor.specs.Format.{Answered, wrong-lengths, faulty, Words-mean}
 use Rattle.vendor.specs.Rows.{start}
 use Rattle.vendor.proofs.Filling.{faultless, sized-parts}
 use Rattle.vendor.proofs.Formats.{pieces-between, numbers-decimal, rows-ended}
 use Rattle.vendor.proofs.Judging.{first-faulty, all-sound, tables-hold}
-
-by-err : (o : Option FileFault) (n : Counts) (f : FileFault) → Err f ≡ answered o n → o ≡ Some f
-by-err None n f e = let z : _≡_ {A = ℕ} 0 1 = cc in absurd (omega arith)
-by-err (Some g) n f e = cc
-
-by-ok : (o : Option FileFault) (n m : Counts) → Ok m ≡ answered o n → (o ≡ None) × (m ≡ n)
-by-ok None n m e = (refl, cc)
-by-ok (Some g) n m e = let z : _≡_ {A = ℕ} 0 1 = cc in absurd (omega arith)
 
 module _ (sh : Shape) (file : List ℕ) (c : Contents) where
   abbrev counts : Counts
@@ -41,21 +35,17 @@ module _ (sh : Shape) (file : List ℕ) (c : Contents) where
   unfolding whole-fault
   fault-sized e = cond-true (sized sh c) _ _ e
 
-  pub no-fault : (m : Counts) → Ok m ≡ rows-answer sh file → fault-of sh file ≡ None
-  no-fault m e = by-ok (fault-of sh file) counts m e .0
+  unsized-after : sized sh c ≡ false → c ≡ tables-after sh file c
+  unsized-after fit = sym (ap (λ o. unless o c (filled sh (entries (lines file)))) (fault-unsized fit))
 
-  pub refused-unsized : sized sh c ≡ false → (Err Whole ≡ answer sh file c) × (c ≡ tables-after sh file c)
-  refused-unsized e = (sym (ap (λ o. answered o counts) (fault-unsized e)), sym (ap (λ o. unless o c (filled sh (entries (lines file)))) (fault-unsized e)))
-
-  pub refused-row : (f : FileFault) → sized sh c ≡ true → Err f ≡ rows-answer sh file → (Err f ≡ answer sh file c) × (c ≡ tables-after sh file c)
-  refused-row f e told =
-      let is = fault-sized e ∙ by-err (fault-of sh file) counts f told in
-      (sym (ap (λ o. answered o counts) is), sym (ap (λ o. unless o c (filled sh (entries (lines file)))) is))
-
-  pub taken : (m : Counts) (d : Contents) → sized sh c ≡ true → Ok m ≡ rows-answer sh file → d ≡ filled sh (entries (lines file)) → (Ok m ≡ answer sh file c) × (d ≡ tables-after sh file c)
-  taken m d e told full =
-      let none = fault-sized e ∙ no-fault m told in
-      (told ∙ ap (λ o. answered o counts) (sym (fault-sized e)), full ∙ sym (ap (λ o. unless o c (filled sh (entries (lines file)))) none))
+  -- how tables of right lengths come out, by the fault of the file's rows
+  sized-after : (o : Option FileFault) → sized sh c ≡ true → fault-of sh file ≡ o → Cases (answered o counts) (λ _. Readable sh file c) (λ _. c ≡ tables-after sh file c)
+  sized-after None fit e = record {
+      sound = e;
+      sized = sized-parts sh c fit;
+      after = sym (ap (λ o. unless o c (filled sh (entries (lines file)))) (fault-sized fit ∙ e));
+    }
+  sized-after (Some f) fit e = sym (ap (λ o. unless o c (filled sh (entries (lines file)))) (fault-sized fit ∙ e))
 
 sized-from : (sh : Shape) (c : Contents) → Right-lengths sh c → sized sh c ≡ true
 sized-from sh c r =
@@ -85,8 +75,17 @@ module _ (sh : Shape) (file : List ℕ) (c : Contents) where
       subst (λ o. Answered sh file c (answered o (counts sh file c)) (unless o c (filled sh (entries (lines file))))) (sym (fault-unsized sh file c fit))
       (wrong-lengths (λ r. both-ways (sized sh c) fit (sized-from sh c r)))
 
-  pub means : (r : Result Counts FileFault) (d : Contents) → r ≡ answer sh file c → d ≡ tables-after sh file c → Answered sh file c r d
-  means r d told held = subst (λ x. Answered sh file c x d) (sym told) (subst (Answered sh file c (answer sh file c)) (sym held) (means-by (sized sh c) refl))
+  pub means : (r : Result Counts FileFault) → r ≡ answer sh file c → (after : Contents) → after ≡ tables-after sh file c → Answered sh file c r after
+  means r told after held = subst (λ x. Answered sh file c x after) (sym told) (subst (Answered sh file c (answer sh file c)) (sym held) (means-by (sized sh c) refl))
+
+  -- the judgement where the tables do not fit, and where they do
+  pub judged-unsized : sized sh c ≡ false → (Err Whole ≡ answer sh file c) × (c ≡ tables-after sh file c)
+  judged-unsized fit = (sym (ap (λ o. answered o (counts sh file c)) (fault-unsized sh file c fit)), unsized-after sh file c fit)
+
+  pub judged-sized : (r : Result Counts FileFault) → sized sh c ≡ true → r ≡ rows-answer sh file → (r ≡ answer sh file c) × Cases r (λ _. Readable sh file c) (λ _. c ≡ tables-after sh file c)
+  judged-sized r fit told =
+      (told ∙ ap (λ o. answered o (counts sh file c)) (sym (fault-sized sh file c fit)),
+      subst (λ x. Cases x (λ _. Readable sh file c) (λ _. c ≡ tables-after sh file c)) (sym told) (sized-after sh file c (fault-of sh file) fit refl))
 
 pub words-mean : Words-mean
 words-mean = record { pieces = pieces-between; numbers = numbers-decimal; rows = rows-ended }

@@ -67,14 +67,14 @@ abbrev pub row-at : List ℕ → ℕ → ℕ → Line
 row-at file at n = record { bytes = take n (drop at file); ended = true }
 
 module _ (file : List ℕ) (at n : ℕ) (look : Looked file at n) where
-  pub row-here : (after : List ℕ) → after ≡ file → at + n < length file → lines (drop at file) ≡ row-at file at n ∷ lines (drop (at + n + 1) after)
-  row-here after kept inside =
+  pub row-here : at + n < length file → lines (drop at file) ≡ row-at file at n ∷ lines (drop (at + n + 1) file)
+  row-here inside =
       let same = take-rest file at in
       let long = length-drop at file in
       let place : at + suc n ≡ at + n + 1 = omega arith in
       let is : getD (drop at file) n 0 ≡ 10 = ap (λ bs. getD bs n 0) (sym same) ∙ look .found (rw same (omega arith)) in
       lines-cut (drop at file) n (omega arith) (λ k h e. look .before k h (ap (λ bs. getD bs k 0) same ∙ e)) is
-      ∙ ap (λ bs. row-at file at n ∷ lines bs) (drop-drop (suc n) at file ∙ (λ j. drop (place j) (sym kept j)))
+      ∙ ap (λ bs. row-at file at n ∷ lines bs) (drop-drop (suc n) at file ∙ ap (λ k. drop k file) place)
 
   pub row-unended : at < length file → at + n ≡ length file → lines (drop at file) ≡ record { bytes = drop at file; ended = false } ∷ []
   row-unended some to-end =

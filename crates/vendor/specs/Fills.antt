@@ -17,7 +17,7 @@ use Rattle.vendor.specs.declared.tables.Counts.{Counts}
 use Rattle.vendor.specs.declared.rows.Last.{Last}
 use Rattle.vendor.specs.Rows as rows
 use Rattle.vendor.specs.Rows.{row-fault}
-use Rattle.vendor.specs.Files.{Contents, contents, place, cell, told, first, second, first-natural}
+use Rattle.vendor.specs.Files.{Contents, contents, Right-lengths, lines, entries, fault-of, filled, tables-after, place, cell, told, first, second, first-natural}
 
 -- the same memory is lent before and after
 pub record Same-places (before after : Tables) : Type 0 where
@@ -76,3 +76,9 @@ pub record Room (c : Counts) : Type 0 where
 abbrev pub Faultless : Shape → Last → List rows.Line → Type 0
 Faultless sh last [] = Unit {0}
 Faultless sh last (l ∷ ls) = (row-fault sh last l ≡ None) × Faultless sh (place l) ls
+
+-- a file that can be read into tables that hold c
+pub record Readable (sh : Shape) (file : List ℕ) (c : Contents) : Type 0 where
+  pub sound : fault-of sh file ≡ None
+  pub sized : Right-lengths sh c
+  pub after : filled sh (entries (lines file)) ≡ tables-after sh file c

@@ -4,7 +4,7 @@ use mathlib.Core.List.{List, [], _∷_}
 use Prim.Native.Nat.{ℕ, zero, suc}
 use lib.Dec.{eqb, leb}
 use lib.IntN.{ℤ, pos, negsuc}
-use lib.ListN.{length, getD}
+use lib.ListN.{length, getD, drop}
 use Rattle.std.specs.Reads.{value}
 use Rattle.std.specs.shelf.Text.{allDigits}
 use Rattle.std.specs.declared.option.Option.{Option}
@@ -29,6 +29,9 @@ below-zero (Some zero) = None
 below-zero (Some (suc n)) = Some (negsuc n)
 
 -- plain digits, and a minus (byte 45) before them where the number is below zero
+abbrev pub number-written : List ℕ → Option ℤ
+number-written text = cond (eqb (getD text 0 0) 45) (below-zero (magnitude-of (drop 1 text))) (at-least-zero (magnitude-of text))
+
+-- the same, kept shut for what only passes it on
 unfoldable pub number : List ℕ → Option ℤ
-number [] = None
-number (b ∷ bs) = cond (eqb b 45) (below-zero (magnitude-of bs)) (at-least-zero (magnitude-of (b ∷ bs)))
+number text = number-written text

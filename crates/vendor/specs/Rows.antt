@@ -144,6 +144,10 @@ entry-of fs = entry-for (group fs) fs
 abbrev pub numbers-answer : Shape → List (List ℕ) → Result Entry FieldFault
 numbers-answer sh fs = unless-no (first-no (number-questions sh fs)) (entry-of fs)
 
+-- the same, of a row of a known letter, from its fields after the letter
+abbrev pub fields-answer : Shape → Group → List (List ℕ) → Result Entry FieldFault
+fields-answer sh g fs = unless-no (first-no (field-questions 2 (columns sh g) fs)) (entry-for g ([] ∷ fs))
+
 -- where a row stands in the order: its letter, its first number and its period; an S row has no first number
 abbrev pub place-of : Entry → Last
 place-of (entry.Output row period mark output) = record { group = Outputs; index = row; period = period }

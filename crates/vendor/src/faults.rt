@@ -3,13 +3,13 @@ ghost use mathlib.Core.Path.{_≡_};
 ghost use Rattle.vendor.specs.Faults.{number-of, row-of, field-of};
 
 // A field, counted from 1 in its row.
-#[derive(Clone, Copy, PartialEq, Eq, Debug)]
+#[derive(Clone, Copy)]
 pub enum FieldFault {
     Malformed { field: usize },
     OutOfRange { field: usize },
 }
 
-#[derive(Clone, Copy, PartialEq, Eq, Debug)]
+#[derive(Clone, Copy)]
 pub enum RowFault {
     Unended,
     UnknownLetter,
@@ -19,7 +19,7 @@ pub enum RowFault {
 }
 
 // `Whole`: the size told or a table's length is not right, so no row was looked at. A row is counted from 1.
-#[derive(Clone, Copy, PartialEq, Eq, Debug)]
+#[derive(Clone, Copy)]
 pub enum FileFault {
     Whole,
     Row { row: usize, fault: RowFault },

@@ -1,9 +1,9 @@
 // Numbers as the format writes them: 1 to 8 digits, a minus where below zero, no spare zeros.
 ghost use mathlib.Core.Path.{_≡_};
 ghost use Prim.Native.Nat.{_<_};
+ghost use lib.ListN.{length, drop};
 ghost use Rattle.std.specs.Options.{Cases};
-ghost use Rattle.vendor.specs.Format.{Read-as};
-ghost use Rattle.vendor.specs.Numbers.{number, magnitude-of};
+ghost use Rattle.vendor.specs.Numbers.{number-written, magnitude-of, at-least-zero, below-zero};
 
 const MOST_DIGITS: usize = 8;
 
@@ -28,22 +28,44 @@ fn magnitude(digits: &[u8]) -> Option<u32>
     Some(value)
 }
 
+// A number without a minus.
+fn at_least_zero(value: Option<u32>) -> Option<i32>
+    requires { ⌜ Cases value (Unit {0}) (λ v. v < 100000000) ⌝ }
+    ensures { λ r. ⌜ r ≡ at-least-zero value ⌝ }
+{
+    match value {
+        Some(value) => Some(value as i32),
+        None => None,
+    }
+}
+
+// A number behind a minus: zero is not written so.
+fn below_zero(value: Option<u32>) -> Option<i32>
+    requires { ⌜ Cases value (Unit {0}) (λ v. v < 100000000) ⌝ }
+    ensures { λ r. ⌜ r ≡ below-zero value ⌝ }
+{
+    match value {
+        Some(0) => None,
+        Some(value) => Some(-(value as i32)),
+        None => None,
+    }
+}
+
+// What stands behind a minus.
+fn after_minus(text: &[u8]) -> &[u8]
+    requires { ⌜ 0 < length (now text) ⌝ }
+    ensures { λ r. ⌜ now r ≡ drop 1 (now (text .entry)) ⌝ }
+{
+    &text[1..]
+}
+
 // The number that a field writes, or `None` where it writes none.
 pub fn parse(text: &[u8]) -> Option<i32>
-    ensures meaning { λ r. ⌜ Read-as (now (text .entry)) r ⌝ }
-    ensures value { λ r. ⌜ r ≡ number (now (text .entry)) ⌝ }
+    ensures { λ r. ⌜ r ≡ number-written (now (text .entry)) ⌝ }
 {
     if text.is_empty() || text[0] != b'-' {
-        let Some(value) = magnitude(text) else {
-            return None;
-        };
-        return Some(value as i32);
+        at_least_zero(magnitude(text))
+    } else {
+        below_zero(magnitude(after_minus(text)))
     }
-    let Some(above) = magnitude(&text[1..]) else {
-        return None;
-    };
-    if above == 0 {
-        return None;
-    }
-    Some(-(above as i32))
 }

@@ -27,7 +27,7 @@ pub struct Tables<'a> {
 }
 
 // How many rows a file has of each letter: R, S, L and G.
-#[derive(Clone, Copy, PartialEq, Eq, Debug)]
+#[derive(Clone, Copy)]
 pub struct Counts {
     pub outputs: usize,
     pub system: usize,

@@ -40,11 +40,11 @@ impl Reader<'_> {
         }
     }
 
-    // The numbers of the next row, or `None` past the last.
-    pub fn next_entry(&mut self, shape: &Shape) -> Result<Option<Entry>, RowFault>
+    // The next row's numbers, judged beside the last row.
+    fn judged(&mut self, shape: &Shape) -> Result<Option<Entry>, RowFault>
         ensures answer { λ r. ⌜ r ≡ entry-answer (now (shape .entry)) (now (self .entry) .last) (rows-ahead (now (self .entry))) ⌝ }
         ensures rows { λ _. ⌜ rows-ahead (now (self .exit)) ≡ tail (rows-ahead (now (self .entry))) ⌝ }
-        ensures last { λ r. ⌜ now (self .exit) .last ≡ last-after (now (self .entry) .last) r ⌝ }
+        ensures last { λ _. ⌜ now (self .exit) .last ≡ now (self .entry) .last ⌝ }
     {
         let next = match self.next_row() {
             Ok(next) => next,
@@ -57,10 +57,19 @@ impl Reader<'_> {
             Ok(entry) => entry,
             Err(fault) => return Err(RowFault::Field(fault)),
         };
-        if !self.may_follow(&entry) {
-            return Err(RowFault::OutOfOrder);
+        if self.may_follow(&entry) { Ok(Some(entry)) } else { Err(RowFault::OutOfOrder) }
+    }
+
+    // The numbers of the next row, or `None` past the last.
+    pub fn next_entry(&mut self, shape: &Shape) -> Result<Option<Entry>, RowFault>
+        ensures answer { λ r. ⌜ r ≡ entry-answer (now (shape .entry)) (now (self .entry) .last) (rows-ahead (now (self .entry))) ⌝ }
+        ensures rows { λ _. ⌜ rows-ahead (now (self .exit)) ≡ tail (rows-ahead (now (self .entry))) ⌝ }
+        ensures last { λ r. ⌜ now (self .exit) .last ≡ last-after (now (self .entry) .last) r ⌝ }
+    {
+        let next = self.judged(shape);
+        if let Ok(Some(entry)) = next {
+            self.last = entry.place();
         }
-        self.last = entry.place();
-        Ok(Some(entry))
+        next
     }
 }

@@ -2,7 +2,7 @@
 ghost use mathlib.Core.Path.{_≡_};
 ghost use mathlib.Core.List.{[], _∷_};
 ghost use Prim.Native.Nat.{ℕ, _+_, _≤_, _<_};
-ghost use lib.ListN.{length, getD};
+ghost use lib.ListN.{length, getD, drop};
 ghost use Rattle.std.specs.Options.{Cases};
 ghost use Rattle.std.specs.Results.{Cases as ByOk};
 ghost use Rattle.std.specs.declared.option.Option.the-variants.{Some};
@@ -128,27 +128,36 @@ impl<'a> Reader<'a> {
         Reader { file, at: 0, last: Last { group: Group::Nothing, index: 0, period: 0 } }
     }
 
+    // The row that begins here, or `None` past the last, and where the next one begins.
+    fn row_here(&mut self) -> (Result<Option<Row<'a>>, RowFault>, usize)
+        ensures answer { λ r. ⌜ Handed-on (rows-ahead (now (self .entry))) (r .0) ⌝ }
+        ensures within { λ r. ⌜ r .1 ≤ length (now (now (self .entry) .file)) ⌝ }
+        ensures rows { λ r. ⌜ lines (drop (r .1) (now (now (self .entry) .file))) ≡ tail (rows-ahead (now (self .entry))) ⌝ }
+        ensures kept { λ _. ⌜ Kept (now (self .entry)) (now (self .exit)) ⌝ }
+    {
+        let at = self.at;
+        let len = self.file.len();
+        if at == len {
+            return (Ok(None), len);
+        }
+        let end = at + find(&self.file[at..len], ROW_END);
+        if end == len {
+            return (Err(RowFault::Unended), len);
+        }
+        match self.cut(end) {
+            Ok(row) => (Ok(Some(row)), end + 1),
+            Err(e) => (Err(e), end + 1),
+        }
+    }
+
     // The next row as one of the four kinds, or `None` past the last; a faulty row is passed too.
     pub fn next_row(&mut self) -> Result<Option<Row<'a>>, RowFault>
         ensures answer { λ r. ⌜ Handed-on (rows-ahead (now (self .entry))) r ⌝ }
         ensures rows { λ _. ⌜ rows-ahead (now (self .exit)) ≡ tail (rows-ahead (now (self .entry))) ⌝ }
         ensures kept { λ _. ⌜ Kept (now (self .entry)) (now (self .exit)) ⌝ }
     {
-        let at = self.at;
-        let len = self.file.len();
-        if at == len {
-            return Ok(None);
-        }
-        let end = at + find(&self.file[at..len], ROW_END);
-        if end == len {
-            self.at = len;
-            return Err(RowFault::Unended);
-        }
-        let row = self.cut(end);
-        self.at = end + 1;
-        match row {
-            Ok(row) => Ok(Some(row)),
-            Err(e) => Err(e),
-        }
+        let (row, next) = self.row_here();
+        self.at = next;
+        row
     }
 }

@@ -1,8 +1,9 @@
 // A whole file: one pass asks every question of every row, and a second writes the tables.
 ghost use mathlib.Core.Path.{_≡_};
+ghost use Rattle.std.specs.Results.{Cases};
 ghost use Rattle.std.specs.declared.option.Option.the-variants.{None};
-ghost use Rattle.vendor.specs.Files.{lines, entries, fault-of, rows-answer, answer, contents, filled, tables-after, Right-lengths};
-ghost use Rattle.vendor.specs.Fills.{Same-places};
+ghost use Rattle.vendor.specs.Files.{lines, entries, fault-of, rows-answer, answer, Contents, contents, filled, tables-after, Right-lengths};
+ghost use Rattle.vendor.specs.Fills.{Same-places, Readable};
 ghost use Rattle.vendor.specs.Format.{Answered, Words-mean};
 use crate::faults::FileFault;
 use crate::reader::Reader;
@@ -49,6 +50,16 @@ fn fill(file: &[u8], shape: &Shape, tables: &mut Tables)
     }
 }
 
+// Whether the file can be read into the tables: its rows by letter, or its fault. Nothing is written.
+fn judge(file: &[u8], shape: &Shape, tables: &Tables) -> Result<Counts, FileFault>
+    ensures meaning { λ r. ⌜ ((after : Contents) → after ≡ tables-after (now (shape .entry)) (now (file .entry)) (contents (now (tables .entry))) → Answered (now (shape .entry)) (now (file .entry)) (contents (now (tables .entry))) r after) ⌝ }
+    ensures words { λ _. ⌜ Words-mean ⌝ }
+    ensures answer { λ r. ⌜ r ≡ answer (now (shape .entry)) (now (file .entry)) (contents (now (tables .entry))) ⌝ }
+    ensures cases { λ r. ⌜ Cases r (λ _. Readable (now (shape .entry)) (now (file .entry)) (contents (now (tables .entry)))) (λ _. contents (now (tables .entry)) ≡ tables-after (now (shape .entry)) (now (file .entry)) (contents (now (tables .entry)))) ⌝ }
+{
+    if tables.fit(shape) { check(file, shape) } else { Err(FileFault::Whole) }
+}
+
 // Reads a file into the tables. A refused file leaves them as they were.
 // `meaning` and `words` are the format's page; `answer` and `held` say it as two functions of file, shape and tables.
 pub fn read(file: &[u8], shape: &Shape, tables: &mut Tables) -> Result<Counts, FileFault>
@@ -58,13 +69,9 @@ pub fn read(file: &[u8], shape: &Shape, tables: &mut Tables) -> Result<Counts, F
     ensures held { λ _. ⌜ contents (now (tables .exit)) ≡ tables-after (now (shape .entry)) (now (file .entry)) (contents (now (tables .entry))) ⌝ }
     ensures places { λ _. ⌜ Same-places (now (tables .entry)) (now (tables .exit)) ⌝ }
 {
-    if !tables.fit(shape) {
-        return Err(FileFault::Whole);
+    let judged = judge(file, shape, tables);
+    if judged.is_ok() {
+        fill(file, shape, tables);
     }
-    let counts = match check(file, shape) {
-        Ok(counts) => counts,
-        Err(fault) => return Err(fault),
-    };
-    fill(file, shape, tables);
-    Ok(counts)
+    judged
 }

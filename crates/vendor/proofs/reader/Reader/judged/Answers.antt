@@ -5,8 +5,8 @@ use Rattle.std.specs.declared.option.Option.the-variants.{Some}
 use Rattle.std.specs.declared.result.Result.the-variants.{Ok}
 use Rattle.vendor.specs.Walks.{Handed-on, rows-ahead}
 use Rattle.vendor.proofs.Questions.{cut-answer, number-answer, place-answer}
-use Rattle.vendor.proofs.reader.Reader.next_entry.Needs as need
-use Rattle.vendor.proofs.reader.Reader.next_entry.Needs.{In-Some}
+use Rattle.vendor.proofs.reader.Reader.judged.Needs as need
+use Rattle.vendor.proofs.reader.Reader.judged.Needs.{In-Some}
 
 -- the row that was handed on
 handed : (c : In-Some) → Handed-on (rows-ahead (c .args .self .now)) (Ok (Some (c .in-Some .row)))
@@ -28,20 +28,20 @@ returns-in-Err-numbers c =
       last = c .next-row .ensures .kept .last;
     }
 
-pub returns-then-not-may-follow : need.returns-then-not-may-follow
-returns-then-not-may-follow c =
-    let placed = c .if-not-may-follow .ensures tt ∙ ap (λ l. follows l (place-of (c .in-Ok-numbers .entry))) (c .next-row .ensures .kept .last) in
+pub returns-then-may-follow : need.returns-then-may-follow
+returns-then-may-follow c =
+    let placed = c .if-may-follow .ensures tt ∙ ap (λ l. follows l (place-of (c .in-Ok-numbers .entry))) (c .next-row .ensures .kept .last) in
     record {
-      answer = place-answer _ _ _ (c .in-Some .row) _ false (handed (need.at·returns-then-not-may-follow c .In-Some)) (c .in-Ok-numbers .ensures tt) placed;
+      answer = place-answer _ _ _ (c .in-Some .row) _ true (handed (need.at·returns-then-may-follow c .In-Some)) (c .in-Ok-numbers .ensures tt) placed;
       rows = c .next-row .ensures .rows;
       last = c .next-row .ensures .kept .last;
     }
 
-pub returns : need.returns
-returns c =
-    let placed = c .if-not-may-follow .ensures tt ∙ ap (λ l. follows l (place-of (c .in-Ok-numbers .entry))) (c .next-row .ensures .kept .last) in
+pub returns-else-may-follow : need.returns-else-may-follow
+returns-else-may-follow c =
+    let placed = c .if-may-follow .ensures tt ∙ ap (λ l. follows l (place-of (c .in-Ok-numbers .entry))) (c .next-row .ensures .kept .last) in
     record {
-      answer = place-answer _ _ _ (c .in-Some .row) _ true (handed (need.at·returns c .In-Some)) (c .in-Ok-numbers .ensures tt) placed;
+      answer = place-answer _ _ _ (c .in-Some .row) _ false (handed (need.at·returns-else-may-follow c .In-Some)) (c .in-Ok-numbers .ensures tt) placed;
       rows = c .next-row .ensures .rows;
-      last = c .place-self .ensures;
+      last = c .next-row .ensures .kept .last;
     }
