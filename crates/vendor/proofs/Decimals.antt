@@ -1,24 +1,21 @@
 -- Digits read from the left, and when they are plain. Assumes nothing.
-use mathlib.Core.Path.{_≡_, refl, sym, ap, subst, _∙_}
-use mathlib.Core.Bool.{Bool, true, false, cond, not, _&&_, _||_}
-use mathlib.Core.Logic.{_⊎_, inl, inr, ⊎-elim}
-use mathlib.Core.List.{List, [], _∷_}
-use Prim.Native.Nat.{ℕ, zero, suc, _+_, _-_, _*_, _^_, _≤_, _<_}
+use mathlib.Core.Path.{_≡_, sym, ap, _∙_}
+use mathlib.Core.Bool.{true, false, not, _||_}
+use mathlib.Core.Logic.{_⊎_, ⊎-elim}
+use mathlib.Core.List.{List}
+use Prim.Native.Nat.{ℕ, _+_, _-_, _*_, _≤_, _<_}
 use native.Mathlib.Omega.{arith}
 use lib.Dec.{eqb, leb}
-use lib.IntN.{ℤ, pos, negℤ}
-use lib.ListN.{length, getD, take, drop, length-take}
+use lib.ListN.{length, getD, take, drop}
 use lib.Seq.{getD-take, length-take-le}
 use Rattle.std.specs.Reads.{value}
 use Rattle.std.specs.Text.{In, asciiDigit, digitValue}
 use Rattle.std.specs.shelf.Text.{allDigits}
 use Rattle.std.proofs.shelf.Digits.{value-more}
 use Rattle.std.proofs.shelf.Numerals.{Numerals, numerals-by-value, tells-allDigits, tells-by-index, value-short}
-use Rattle.std.proofs.shelf.Tests.{leb-true, leb-false, eqb-true, eq-eqb, ne-eqb, le-leb, lt-leb, and-parts, and-from, and-left, and-right, or-left, or-right, or-cases, not-from-false, not-true, cases-eq, cond-true, cond-false}
+use Rattle.std.proofs.shelf.Tests.{leb-true, eqb-true, eq-eqb, ne-eqb, le-leb, and-parts, and-from, or-left, or-right, or-cases, not-from-false, not-true, cases-eq, cases-bool, both-ways, cond-true, cond-false}
 use Rattle.std.proofs.shelf.Ways.{tells}
 use Rattle.vendor.specs.Numbers.{plain, number, magnitude-of, at-least-zero, below-zero}
-use Rattle.std.specs.declared.option.Option.{Option}
-use Rattle.std.specs.declared.option.Option.the-variants.{Some, None}
 
 -- each of the first n bytes is a digit
 abbrev pub Digits-below : List ℕ → ℕ → Type 0
@@ -79,18 +76,19 @@ plain-parts ds e =
       short = record {
         some = leb-true 1 (length ds) (q .0);
         few = leb-true (length ds) 8 (r .0);
-        spare = λ z. ⊎-elim (λ one. omega (arith, eqb-true (length ds) 1 one)) (λ other. let f = not-true (eqb (getD ds 0 0) 48) other in let t = eq-eqb (getD ds 0 0) 48 z in let bad : _≡_ {A = Bool} true false = sym t ∙ f in let z : _≡_ {A = ℕ} 0 1 = cc in omega arith) (or-cases (eqb (length ds) 1) _ (r .1));
+        spare = λ z. ⊎-elim (λ one. omega (arith, eqb-true (length ds) 1 one))
+          (λ other. absurd (both-ways (eqb (getD ds 0 0) 48) (not-true _ other) (eq-eqb (getD ds 0 0) 48 z))) (or-cases (eqb (length ds) 1) _ (r .1));
       };
       each = digits-each ds (p .0);
     }
 
+told-digit : (b : ℕ) → In 48 57 b → asciiDigit b ≡ true
+told-digit b h = and-from (leb 48 b) (leb b 57) (le-leb 48 b (h .0)) (le-leb b 57 (h .1))
+
 -- a byte that is no digit leaves nothing plain
 pub not-plain-at : (ds : List ℕ) (i : ℕ) → i < length ds → false ≡ asciiDigit (getD ds i 0) → plain ds ≡ false
-not-plain-at ds i within h = let-false (plain ds) (λ e. let k = plain-parts ds e .each i within in let t : asciiDigit (getD ds i 0) ≡ true = and-from (leb 48 (getD ds i 0)) (leb (getD ds i 0) 57) (le-leb 48 _ (k .0)) (le-leb _ 57 (k .1)) in let bad : _≡_ {A = Bool} true false = sym t ∙ sym h in let z : _≡_ {A = ℕ} 0 1 = cc in omega arith)
-  where
-    let-false : (b : Bool) → (b ≡ true → ⊥) → b ≡ false
-    let-false true f = absurd (f refl)
-    let-false false f = refl
+not-plain-at ds i within h =
+    ⊎-elim (λ e. absurd (both-ways (asciiDigit (getD ds i 0)) (sym h) (told-digit (getD ds i 0) (plain-parts ds e .each i within)))) (λ e. e) (cases-bool (plain ds))
 
 pub is-digit : (b : ℕ) → asciiDigit b ≡ true → In 48 57 b
 is-digit b e = let p = and-parts (leb 48 b) (leb b 57) e in (leb-true 48 b (p .0), leb-true b 57 (p .1))
@@ -98,18 +96,11 @@ is-digit b e = let p = and-parts (leb 48 b) (leb b 57) e in (leb-true 48 b (p .0
 pub plain-value : (ds : List ℕ) → Plain ds → value 10 ds < 100000000
 plain-value ds p = value-short by-place ds 8 (p .each) (p .short .few)
 
--- a text with no minus in front
-pub number-unsigned : (text : List ℕ) → (length text ≡ 0) ⊎ (getD text 0 0 ≡ 45 → ⊥) → number text ≡ at-least-zero (magnitude-of text)
+-- a text with no minus in front, and one with it
+pub number-unsigned : (text : List ℕ) → (getD text 0 0 ≡ 45 → ⊥) → number text ≡ at-least-zero (magnitude-of text)
 unfolding number
-number-unsigned [] h = refl
-number-unsigned (b ∷ bs) h = ⊎-elim (λ e. absurd (omega arith)) (λ ne. cond-false (eqb b 45) _ _ (ne-eqb b 45 ne)) h
+number-unsigned text ne = cond-false (eqb (getD text 0 0) 45) _ _ (ne-eqb (getD text 0 0) 45 ne)
 
--- a text with a minus in front
-pub number-minus : (text : List ℕ) → 0 < length text → getD text 0 0 ≡ 45 → number text ≡ below-zero (magnitude-of (drop 1 text))
+pub number-minus : (text : List ℕ) → getD text 0 0 ≡ 45 → number text ≡ below-zero (magnitude-of (drop 1 text))
 unfolding number
-number-minus [] some e = absurd (omega arith)
-number-minus (b ∷ bs) some e = cond-true (eqb b 45) _ _ (eq-eqb b 45 e)
-
-pub below-zero-at : (m : Option ℕ) (n : ℕ) (z : ℤ) → m ≡ Some n → (n ≡ 0 → ⊥) → z ≡ negℤ (pos n) → below-zero m ≡ Some z
-below-zero-at m zero z is ne e = absurd (ne refl)
-below-zero-at m (suc n) z is ne e = ap below-zero is ∙ ap Some (sym e)
+number-minus text e = cond-true (eqb (getD text 0 0) 45) _ _ (eq-eqb (getD text 0 0) 45 e)

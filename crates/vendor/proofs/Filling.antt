@@ -1,12 +1,11 @@
 -- The tables while they are written, row after row. Assumes nothing.
 use mathlib.Core.Path.{_≡_, refl, sym, ap, subst, _∙_}
-use mathlib.Core.Bool.{cond}
 use mathlib.Core.Logic.{⊎-elim}
 use mathlib.Core.List.{List, [], _∷_}
 use Prim.Native.Nat.{ℕ, _+_, _*_, _≤_, _<_}
 use native.Mathlib.Omega.{arith}
 use lib.Dec.{eqb}
-use lib.IntN.{ℤ, pos}
+use lib.IntN.{pos}
 use lib.ListN.{length, getD, set, replicate}
 use Rattle.std.specs.declared.option.Option.{Option}
 use Rattle.std.specs.declared.option.Option.the-variants.{Some, None}
@@ -22,10 +21,10 @@ use Rattle.vendor.specs.declared.rows.Last.{Last}
 use Rattle.vendor.specs.declared.rows.Entry.{Entry}
 use Rattle.vendor.specs.Files.{lines, fault-of, place, row-or, fault-from, entries, after, after-all, table, Contents, Right-lengths, sized, filled, told, first, second, first-natural}
 use Rattle.vendor.specs.declared.tables.Tables.{Tables}
-use Rattle.vendor.specs.Fills.{cleared, put, written, Faultless, Names-a-cell, Same-places}
+use Rattle.vendor.specs.Fills.{cleared, put, written, Names-a-cell, Same-places}
 use Rattle.vendor.specs.Rows.{Line, fields, entry-of, place-of, row-fault, start}
 use Rattle.vendor.specs.Walks.{tail}
-use Rattle.vendor.proofs.Inside.{names-a-cell, lies-in}
+use Rattle.vendor.proofs.Inside.{Faultless, names-a-cell, lies-in}
 use Rattle.vendor.proofs.Passes.{Read-on}
 
 -- a table on its way: its cells, with the rows ahead written over them, come out as all rows tell

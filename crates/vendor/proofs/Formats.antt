@@ -1,6 +1,5 @@
 -- The laws of the format: what pieces, numbers and rows are in its own words. Assumes nothing.
 use mathlib.Core.Path.{_≡_, refl, sym, ap, subst, _∙_}
-use mathlib.Core.Logic.{inr}
 use mathlib.Core.List.{List, [], _∷_, _++_, append-nil}
 use Prim.Native.Nat.{ℕ, zero, suc, _≤_, _<_}
 use native.Mathlib.Omega.{arith}
@@ -18,7 +17,7 @@ use Rattle.std.proofs.shelf.Tests.{eqb-true, eqb-false, eq-eqb, ne-eqb, cond-tr
 use Rattle.std.specs.declared.option.Option.{Option}
 use Rattle.std.specs.declared.option.Option.the-variants.{Some, None}
 use Rattle.vendor.specs.Files.{lines, lines-of}
-use Rattle.vendor.specs.Format.{Written-as, Numbers-are-decimals, Read-as, unsplit, Rows-proper, Rows-are-what-byte-10-ends}
+use Rattle.vendor.specs.Format.{Written-as, Numbers-are-decimals, unsplit, Rows-proper, Rows-are-what-byte-10-ends}
 use Rattle.vendor.specs.Numbers.{plain, number, magnitude-of, at-least-zero, below-zero}
 use Rattle.vendor.specs.Pieces.{pieces, onto, joined-by, Lacks, Cut-at, Pieces-are-what-stands-between}
 use Rattle.vendor.proofs.Cuts.{cut-last}
@@ -116,8 +115,8 @@ magnitude-read n small =
 read : (z : ℤ) → (negℤ (pos 99999999) ≤ℤ z) × (z ≤ℤ pos 99999999) → number (signed z) ≡ Some z
 read (pos n) small =
     let h : n < 100000000 = omega (arith, ints) in
-    number-unsigned (decimal n) (inr (λ e. omega (arith, each-digit n h 0 (decimal-some n (omega arith))))) ∙ ap at-least-zero (magnitude-read n h)
-read (negsuc n) small = number-minus (signed (negsuc n)) (omega arith) refl ∙ ap below-zero (magnitude-read (suc n) (omega (arith, ints)))
+    number-unsigned (decimal n) (λ e. omega (arith, each-digit n h 0 (decimal-some n (omega arith)))) ∙ ap at-least-zero (magnitude-read n h)
+read (negsuc n) small = number-minus (signed (negsuc n)) refl ∙ ap below-zero (magnitude-read (suc n) (omega (arith, ints)))
 
 -- the texts that are numbers are the decimal texts of small numbers
 pub numbers-decimal : Numbers-are-decimals
@@ -141,8 +140,3 @@ proper (p ∷ q ∷ ps) c = (c .0, λ e. absurd (true≢false e), proper (q ∷ 
 pub rows-ended : Rows-are-what-byte-10-ends
 unfolding lines
 rows-ended file = let c = cut 10 file in (together (pieces 10 file) ∙ c .whole, proper (pieces 10 file) (c .clean))
-
--- a text is answered with the number that it writes
-pub read-as : (bs : List ℕ) (r : Option ℤ) → r ≡ number bs → Read-as bs r
-read-as bs None is = λ z w. let bad : _≡_ {A = ℕ} 0 1 = cc (numbers-decimal bs z .1 w) in omega arith
-read-as bs (Some z) is = numbers-decimal bs z .0 (sym is)

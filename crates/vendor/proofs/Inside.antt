@@ -1,10 +1,10 @@
 -- A row without fault names cells that are there. Assumes nothing.
-use mathlib.Core.Path.{_≡_, refl, sym, ap, subst, _∙_}
-use mathlib.Core.Bool.{Bool, true, false, cond, _&&_}
-use mathlib.Core.List.{List, [], _∷_, _++_, map}
+use mathlib.Core.Path.{_≡_, refl, sym, _∙_}
+use mathlib.Core.Bool.{Bool, true, false}
+use mathlib.Core.List.{List, [], _∷_, _++_}
 use Prim.Native.Nat.{ℕ, suc, _+_, _*_, _-_, _≤_, _<_}
 use native.Mathlib.Omega.{arith}
-use lib.Dec.{eqb, leb, ltb}
+use lib.Dec.{leb}
 use lib.IntN.{ℤ, pos, negsuc}
 use lib.ListN.{length}
 use Rattle.std.specs.Options.{mapped}
@@ -20,8 +20,9 @@ use Rattle.vendor.specs.declared.rows.Shape.{Shape}
 use Rattle.vendor.specs.declared.rows.Last.{Last}
 use Rattle.vendor.specs.declared.rows.Group.{Group}
 use Rattle.vendor.specs.declared.rows.Group.the-variants.{Nothing, Outputs, System, Lines, Ramps}
+use Rattle.vendor.specs.Files.{place}
 use Rattle.vendor.specs.Fills.{Names-a-cell}
-use Rattle.vendor.specs.Rows.{Line, fields, number-in, first-no, in-field, cut-questions, number-questions, field-questions, columns, group, known, width, natural, below, one-to, any, entry-for, entry-of, place-of, follows, row-fault}
+use Rattle.vendor.specs.Rows.{Line, fields, number-in, first-no, cut-questions, number-questions, field-questions, columns, group, known, width, natural, below, one-to, any, entry-for, entry-of, place-of, follows, row-fault}
 use Rattle.vendor.proofs.Questions.{order, numbers, in-fields}
 
 -- all of some questions have the answer yes
@@ -118,3 +119,8 @@ names-a-cell sh (entry.Output row period mark output) h = (h .1, cell-below (sh 
 names-a-cell sh (entry.System period price) h = (h .0, h .1)
 names-a-cell sh (entry.Line line period upper lower) h = (h .1, cell-below (sh .lines) (sh .periods) line period (h .0) (h .1) (h .2))
 names-a-cell sh (entry.Ramp row period rise fall) h = (h .1, cell-below (sh .size) (sh .periods) row period (h .0) (h .1) (h .2))
+
+-- no row has a fault beside the row before it
+abbrev pub Faultless : Shape → Last → List Line → Type 0
+Faultless sh last [] = Unit {0}
+Faultless sh last (l ∷ ls) = (row-fault sh last l ≡ None) × Faultless sh (place l) ls

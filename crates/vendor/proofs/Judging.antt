@@ -2,18 +2,17 @@
 use mathlib.Core.Path.{_≡_, refl, sym, ap, subst, _∙_}
 use mathlib.Core.Bool.{Bool, true, false, cond, _&&_, _||_}
 use mathlib.Core.Logic.{_⊎_, inl, inr, ⊎-elim}
-use mathlib.Core.List.{List, [], _∷_, map}
+use mathlib.Core.List.{List, [], _∷_}
 use Prim.Native.Nat.{ℕ, zero, suc, _+_, _*_, _-_, _≤_, _<_}
 use native.Mathlib.Omega.{arith}
 use lib.Dec.{eqb, ltb}
 use lib.IntN.{ℤ, pos}
 use lib.ListN.{length, getD}
-use Rattle.std.specs.Iters.{counting}
 use Rattle.std.specs.declared.option.Option.{Option}
 use Rattle.std.specs.declared.option.Option.the-variants.{Some, None}
 use Rattle.std.proofs.shelf.Bits.{mul-add-lt}
 use Rattle.std.proofs.shelf.Counted.{length-map-counting, getD-map-counting}
-use Rattle.std.proofs.shelf.Tests.{cond-true, cond-false, eq-eqb, ne-eqb, eqb-true, ltb-true, and-parts, or-cases, cases-eq, cases-order}
+use Rattle.std.proofs.shelf.Tests.{cond-true, cond-false, eq-eqb, ne-eqb, eqb-true, ltb-true, and-parts, or-cases, cases-order}
 use Rattle.std.proofs.shelf.Ways.{tells}
 use Rattle.vendor.specs.declared.faults.RowFault.{RowFault}
 use Rattle.vendor.specs.declared.faults.FileFault.{FileFault}
@@ -25,10 +24,10 @@ use Rattle.vendor.specs.declared.rows.Group.the-variants.{Nothing, Outputs, Sy
 use Rattle.vendor.specs.declared.rows.Entry.{Entry}
 use Rattle.vendor.specs.declared.rows.Entry.the-variants as entry
 use Rattle.vendor.specs.Files.{lines, place, row-or, fault-from, fault-of, entries, cell, told, numbers-of, first, second, first-natural, after, after-all, table, filled}
-use Rattle.vendor.specs.Fills.{Faultless, Names-a-cell}
-use Rattle.vendor.specs.Format.{row-at, place-before, fault-at, Sound-before, All-sound, First-faulty, entry-at, Holds, Tables-hold}
+use Rattle.vendor.specs.Fills.{Names-a-cell}
+use Rattle.vendor.specs.Format.{fault-at, All-sound, First-faulty, entry-at, Holds, Tables-hold}
 use Rattle.vendor.specs.Rows.{Line, fields, entry-of, place-of, follows, rank, row-fault, start}
-use Rattle.vendor.proofs.Inside.{Lies-in, lies-in, names-a-cell, sound}
+use Rattle.vendor.proofs.Inside.{Faultless, Lies-in, lies-in, names-a-cell, sound}
 
 -- the row that stands for none
 abbrev empty : Line

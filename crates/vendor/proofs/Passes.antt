@@ -1,34 +1,23 @@
 -- What one row more does to the count of rows, and to the tables. Assumes nothing.
-use mathlib.Core.Path.{_≡_, refl, sym, ap, subst, _∙_}
-use mathlib.Core.Bool.{Bool, true, false, cond}
-use mathlib.Core.Logic.{⊎-elim}
-use mathlib.Core.List.{List, [], _∷_, map}
-use Prim.Native.Nat.{ℕ, suc, _+_, _*_, _≤_, _<_}
+use mathlib.Core.Path.{_≡_, refl, ap, _∙_}
+use mathlib.Core.Bool.{true, false, cond}
+use mathlib.Core.List.{List, [], _∷_}
+use Prim.Native.Nat.{ℕ, suc, _+_, _≤_, _<_}
 use native.Mathlib.Omega.{arith}
 use lib.Dec.{eqb}
-use lib.IntN.{ℤ, pos}
-use lib.ListN.{length, getD, set, replicate}
-use Rattle.std.specs.Iters.{counting}
+use lib.ListN.{length}
 use Rattle.std.specs.declared.option.Option.{Option}
 use Rattle.std.specs.declared.option.Option.the-variants.{Some, None}
-use Rattle.std.specs.declared.result.Result.{Result}
-use Rattle.std.specs.declared.result.Result.the-variants.{Ok, Err}
-use Rattle.std.proofs.shelf.Counted.{fill-by-all}
-use Rattle.std.proofs.shelf.Lists.{getD-set-same, getD-set-other, getD-replicate, length-set, length-replicate}
-use Rattle.std.proofs.shelf.Tests.{cond-true, cond-false, eq-eqb, ne-eqb, cases-eq}
+use Rattle.std.specs.declared.result.Result.the-variants.{Ok}
 use Rattle.vendor.specs.declared.faults.RowFault.{RowFault}
-use Rattle.vendor.specs.declared.faults.FileFault.{FileFault}
-use Rattle.vendor.specs.declared.faults.FileFault.the-variants.{Row}
 use Rattle.vendor.specs.declared.rows.Shape.{Shape}
 use Rattle.vendor.specs.declared.rows.Last.{Last}
 use Rattle.vendor.specs.declared.rows.Entry.{Entry}
 use Rattle.vendor.specs.declared.tables.Counts.{Counts}
-use Rattle.vendor.specs.declared.rows.Entry.the-variants.{Output, System, Ramp}
-use Rattle.vendor.specs.declared.rows.Entry.the-variants as entry
 use Rattle.vendor.specs.Files as Files
-use Rattle.vendor.specs.Files.{lines, rows-answer, none-counted, lines-of, place, row-or, fault-from, entries, after, after-all, table, Contents, filled, answered, rows-answer-from, counted, one-more}
+use Rattle.vendor.specs.Files.{lines, rows-answer, none-counted, lines-of, answered, rows-answer-from}
 use Rattle.vendor.specs.Pieces.{pieces, onto}
-use Rattle.vendor.specs.Rows.{Line, fields, entry-of, place-of, row-fault, start}
+use Rattle.vendor.specs.Rows.{Line, fields, entry-of, row-fault, start}
 use Rattle.vendor.specs.Walks.{entry-answer, none-or, tail}
 use Rattle.vendor.proofs.Walking.{pieces-some, lines-cons}
 
@@ -73,22 +62,6 @@ module _ (sh : Shape) (last : Last) where
       never None told = let z : _≡_ {A = ℕ} 0 1 = cc in absurd (omega arith)
       never (Some f) told = let z : _≡_ {A = ℕ} 0 1 = cc in absurd (omega arith)
 
-  read-bad : (l : Line) (f : RowFault) (o : Option RowFault) → Err f ≡ none-or o (entry-of (fields l)) → o ≡ Some f
-  read-bad l f None told = let z : _≡_ {A = ℕ} 0 1 = cc in absurd (omega arith)
-  read-bad l f (Some g) told = cc
-
-  pub refused-row : (n : ℕ) (c : Counts) (ls : List Line) (f : RowFault) → Err f ≡ entry-answer sh last ls → rows-answer-from sh n last c ls ≡ Err (Row n f)
-  refused-row n c [] f told = let z : _≡_ {A = ℕ} 0 1 = cc in absurd (omega arith)
-  refused-row n c (l ∷ ls) f told = ap (λ o. answered (row-or o n (fault-from sh (n + 1) (place l) ls)) (counted c (entries (l ∷ ls)))) (read-bad l f (row-fault sh last l) told)
-
-  pub taken-row : (n : ℕ) (c : Counts) (ls : List Line) (e : Entry) → Read-on sh last ls e → rows-answer-from sh n last c ls ≡ rows-answer-from sh (n + 1) (place-of e) (one-more e c) (tail ls)
-  taken-row n c [] e r = let z : _≡_ {A = ℕ} 0 1 = cc in absurd (omega arith)
-  taken-row n c (l ∷ ls) e r =
-      let same : r .row ≡ l = cc in
-      let entry : entry-of (fields l) ≡ e = sym (r .told ∙ ap (λ x. entry-of (fields x)) same) in
-      ap (λ o. answered (row-or o n (fault-from sh (n + 1) (place l) ls)) (counted c (entries (l ∷ ls)))) (ap (row-fault sh last) (sym same) ∙ r .sound)
-      ∙ ap (λ x. answered (fault-from sh (n + 1) (place-of x) ls) (counted (one-more x c) (entries ls))) entry
-
 -- the first pass, before the row n: what is answered so far and from here on is the file's answer
 pub record Checking (sh : Shape) (file : List ℕ) (n : ℕ) (last : Last) (c : Counts) (ahead : List Line) : Type 0 where
   pub answer : rows-answer-from sh n last c ahead ≡ rows-answer sh file
@@ -111,27 +84,6 @@ module _ (sh : Shape) (file : List ℕ) where
 
   longer : (ls : List Line) (l : Line) (rest : List Line) → ls ≡ l ∷ rest → length ls ≡ length rest + 1
   longer ls l rest is = ap length is ∙ omega arith
-
-  counted-most : (e : Entry) (c : Counts) (n : ℕ) → c .outputs < n → c .system < n → c .lines < n → c .ramps < n
-    → (one-more e c .outputs < n + 1) × (one-more e c .system < n + 1) × (one-more e c .lines < n + 1) × (one-more e c .ramps < n + 1)
-  counted-most (Output r t m o) c n a b d f = omega arith
-  counted-most (System t p) c n a b d f = omega arith
-  counted-most (entry.Line l t u w) c n a b d f = omega arith
-  counted-most (Ramp r t x y) c n a b d f = omega arith
-
-  pub checking-more : (n : ℕ) (last last′ : Last) (c : Counts) (ahead ahead′ : List Line) (e : Entry) → Checking sh file n last c ahead → Read-on sh last ahead e
-    → last′ ≡ place-of e → ahead′ ≡ tail ahead → Checking sh file (n + 1) last′ (one-more e c) ahead′
-  checking-more n last last′ c ahead ahead′ e h r moved on =
-      let most = counted-most e c n (h .outputs) (h .system) (h .lines) (h .ramps) in
-      let long = longer ahead (r .row) (tail ahead) (r .is) in
-      record {
-        answer = (λ j. rows-answer-from sh (n + 1) (moved j) (one-more e c) (on j)) ∙ sym (taken-row sh last n c ahead e r) ∙ h .answer;
-        rows = omega (arith, ap length on, h .rows);
-        outputs = most .0;
-        system = most .1;
-        lines = most .2;
-        ramps = most .3;
-      }
 
   -- a row that is ahead is one of no more rows than the file has bytes
   pub row-small : (n : ℕ) (last : Last) (c : Counts) (ahead : List Line) (e : Entry) → Checking sh file n last c ahead → Read-on sh last ahead e → n ≤ length file

@@ -1,8 +1,6 @@
 -- What a fault tells: its number, its row and its field. Assumes nothing.
 use Prim.Native.Nat.{ℕ}
-use Rattle.vendor.specs.declared.faults.FieldFault.{FieldFault}
 use Rattle.vendor.specs.declared.faults.FieldFault.the-variants.{Malformed, OutOfRange}
-use Rattle.vendor.specs.declared.faults.RowFault.{RowFault}
 use Rattle.vendor.specs.declared.faults.RowFault.the-variants.{Unended, UnknownLetter, FieldCount, Field, OutOfOrder}
 use Rattle.vendor.specs.declared.faults.FileFault.{FileFault}
 use Rattle.vendor.specs.declared.faults.FileFault.the-variants.{Whole, Row}

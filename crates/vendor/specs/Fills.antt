@@ -1,8 +1,8 @@
 -- One row written into the tables, and all rows one after another. Assumes nothing.
 use mathlib.Core.Path.{_≡_}
-use mathlib.Core.List.{List, [], _∷_}
+use mathlib.Core.List.{List}
 use Prim.Native.Nat.{ℕ, _+_, _*_, _≤_, _<_}
-use lib.IntN.{ℤ, pos}
+use lib.IntN.{pos}
 use lib.ListN.{length, set, replicate}
 use denote.Ref.{name}
 use Rattle.std.specs.declared.option.Option.{Option}
@@ -14,10 +14,8 @@ use Rattle.vendor.specs.declared.rows.Entry.the-variants as entry
 use Rattle.vendor.specs.declared.rows.Group.the-variants.{Outputs, System, Lines, Ramps}
 use Rattle.vendor.specs.declared.tables.Tables.{Tables}
 use Rattle.vendor.specs.declared.tables.Counts.{Counts}
-use Rattle.vendor.specs.declared.rows.Last.{Last}
 use Rattle.vendor.specs.Rows as rows
-use Rattle.vendor.specs.Rows.{row-fault}
-use Rattle.vendor.specs.Files.{Contents, contents, Right-lengths, lines, entries, fault-of, filled, tables-after, place, cell, told, first, second, first-natural}
+use Rattle.vendor.specs.Files.{Contents, Right-lengths, lines, entries, fault-of, filled, tables-after, cell, told, first, second, first-natural}
 
 -- the same memory is lent before and after
 pub record Same-places (before after : Tables) : Type 0 where
@@ -71,11 +69,6 @@ pub record Room (c : Counts) : Type 0 where
   pub system : c .system + 1 < 18446744073709551616
   pub lines : c .lines + 1 < 18446744073709551616
   pub ramps : c .ramps + 1 < 18446744073709551616
-
--- no row has a fault beside the row before it
-abbrev pub Faultless : Shape → Last → List rows.Line → Type 0
-Faultless sh last [] = Unit {0}
-Faultless sh last (l ∷ ls) = (row-fault sh last l ≡ None) × Faultless sh (place l) ls
 
 -- a file that can be read into tables that hold c
 pub record Readable (sh : Shape) (file : List ℕ) (c : Contents) : Type 0 where

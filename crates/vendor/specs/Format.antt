@@ -17,7 +17,6 @@ use Rattle.vendor.specs.declared.faults.FileFault.the-variants.{Whole, Row}
 use Rattle.vendor.specs.declared.rows.Shape.{Shape}
 use Rattle.vendor.specs.declared.rows.Last.{Last}
 use Rattle.vendor.specs.declared.rows.Entry.{Entry}
-use Rattle.vendor.specs.declared.rows.Group.{Group}
 use Rattle.vendor.specs.declared.rows.Group.the-variants.{Outputs, System, Lines, Ramps}
 use Rattle.vendor.specs.declared.tables.Counts.{Counts}
 use Rattle.vendor.specs.Files.{lines, place, told, first, second, first-natural, Contents, Right-lengths, entries, counted, none-counted}
@@ -32,11 +31,6 @@ pub record Written-as (bs : List ℕ) (z : ℤ) : Type 0 where
 
 abbrev pub Numbers-are-decimals : Type 0
 Numbers-are-decimals = (bs : List ℕ) (z : ℤ) → (number bs ≡ Some z → Written-as bs z) × (Written-as bs z → number bs ≡ Some z)
-
--- how a text is answered: with the number that it writes, or with none where it writes none
-abbrev pub Read-as : List ℕ → Option ℤ → Type 0
-Read-as bs None = (z : ℤ) → Written-as bs z → ⊥
-Read-as bs (Some z) = Written-as bs z
 
 -- rows put together again: each with its byte 10, unless none ended it
 abbrev pub ends : Bool → List ℕ

@@ -1,11 +1,10 @@
-use mathlib.Core.Path.{_≡_, sym, ap, subst, _∙_}
-use Prim.Native.Nat.{_+_, _≤_}
+use mathlib.Core.Path.{_≡_, subst}
+use Prim.Native.Nat.{_≤_}
 use native.Mathlib.Omega.{arith}
 use lib.ListN.{length}
-use Rattle.std.specs.declared.option.Option.the-variants.{Some}
 use Rattle.std.specs.declared.result.Result.the-variants.{Ok}
-use Rattle.vendor.specs.Walks.{entry-answer, rows-ahead, last-after}
-use Rattle.vendor.proofs.Passes.{Read-on, read-on, read-out, refused-row, row-small, checking-none, checking-more}
+use Rattle.vendor.specs.Walks.{entry-answer, rows-ahead}
+use Rattle.vendor.proofs.Passes.{Read-on, read-on, row-small, checking-none}
 use Rattle.vendor.proofs.tables.reading.check.Needs as need
 use Rattle.vendor.proofs.tables.reading.check.Needs.{In-Some}
 

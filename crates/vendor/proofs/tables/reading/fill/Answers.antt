@@ -1,5 +1,4 @@
-use mathlib.Core.Path.{_≡_, sym, ap, subst, _∙_}
-use Rattle.std.specs.declared.option.Option.the-variants.{Some}
+use mathlib.Core.Path.{_≡_, sym, ap, _∙_}
 use Rattle.std.specs.declared.result.Result.the-variants.{Ok}
 use Rattle.vendor.specs.Walks.{entry-answer, last-after, rows-ahead}
 use Rattle.vendor.proofs.Filling.{writing-none, writing-more, writing-all, filling-sized, names-on, same-places-none, same-places-on}
