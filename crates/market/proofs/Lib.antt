@@ -1,0 +1,3 @@
+pub mod Scanning
+pub mod Making
+pub mod Tables

@@ -1,0 +1,3 @@
+pub mod Scans
+pub mod Days
+pub mod Labels

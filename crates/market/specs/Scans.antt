@@ -1,0 +1,58 @@
+-- Ranges, and the first cell of a table that is out of its range. Assumes nothing.
+use mathlib.Core.Bool.{Bool, true, _&&_}
+use mathlib.Core.List.{List}
+use Prim.Native.Nat.{ℕ, zero, suc, _<_}
+use lib.IntN.{ℤ, pos}
+use lib.ListN.{length, getD}
+use lib.Signed.{_≤ℤ_, leZ}
+use Rattle.std.specs.declared.option.Option.{Option}
+use Rattle.std.specs.declared.option.Option.the-variants.{Some, None}
+
+-- x lies in low to high
+pub record In (low high x : ℤ) : Type 0 where
+  pub above : low ≤ℤ x
+  pub below : x ≤ℤ high
+
+-- the same as a test
+abbrev pub in-test : ℤ → ℤ → ℤ → Bool
+in-test low high x = leZ low x && leZ x high
+
+-- the test p passes at every number below n
+abbrev pub all-below : (ℕ → Bool) → ℕ → Bool
+all-below p zero = true
+all-below p (suc n) = p n && all-below p n
+
+-- the number at index i, and 0 past the end
+abbrev pub at : List ℤ → ℕ → ℤ
+at xs i = getD xs i (pos 0)
+
+-- every cell before i lies in the range
+abbrev pub In-before : ℤ → ℤ → List ℤ → ℕ → Type 0
+In-before low high xs i = (k : ℕ) → k < i → In low high (at xs k)
+
+abbrev pub in-all : ℤ → ℤ → List ℤ → Bool
+in-all low high xs = all-below (λ k. in-test low high (at xs k)) (length xs)
+
+pub record First-out (low high : ℤ) (xs : List ℤ) (i : ℕ) : Type 0 where
+  pub within : i < length xs
+  pub before : In-before low high xs i
+  pub out : In low high (at xs i) → ⊥
+
+-- the first cell that does not lie in the range, or none
+abbrev pub Outside : ℤ → ℤ → List ℤ → Option ℕ → Type 0
+Outside low high xs None = In-before low high xs (length xs)
+Outside low high xs (Some i) = First-out low high xs i
+
+-- no number before index i of the one list is above that of the other
+abbrev pub Ordered : List ℤ → List ℤ → ℕ → Type 0
+Ordered xs ys i = (k : ℕ) → k < i → at xs k ≤ℤ at ys k
+
+pub record First-crossed (xs ys : List ℤ) (i : ℕ) : Type 0 where
+  pub within : i < length xs
+  pub before : Ordered xs ys i
+  pub crossed : at xs i ≤ℤ at ys i → ⊥
+
+-- the first place where the one list is above the other, or none
+abbrev pub Crossed : List ℤ → List ℤ → Option ℕ → Type 0
+Crossed xs ys None = Ordered xs ys (length xs)
+Crossed xs ys (Some i) = First-crossed xs ys i

@@ -1,0 +1,12 @@
+// The market: a day and its numbers, fleets by what they mean, plans judged and price sets bounded.
+mod day;
+mod label;
+mod numbers;
+mod refusal;
+mod scan;
+
+pub use day::Day;
+pub use label::Label;
+pub use label::label_of;
+pub use numbers::DayNumbers;
+pub use refusal::Refusal;

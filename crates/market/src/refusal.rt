@@ -1,0 +1,7 @@
+// A question that has the answer no: its number, with the row, line or node and the period that it names, 0 where it names none.
+#[derive(Clone, Copy)]
+pub struct Refusal {
+    pub number: u8,
+    pub place: usize,
+    pub period: usize,
+}
