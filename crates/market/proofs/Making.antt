@@ -1,17 +1,15 @@
 -- A day's questions, by tests and by what they mean. Assumes nothing.
-use mathlib.Core.Path.{_≡_, refl, sym, ap, subst, _∙_}
-use mathlib.Core.Bool.{Bool, true, false, _&&_}
-use Prim.Native.Nat.{ℕ, _+_, _*_, _/_, _%_, _≤_, _<_}
+use mathlib.Core.Path.{_≡_, sym, subst}
+use mathlib.Core.Bool.{true, false, _&&_}
+use Prim.Native.Nat.{ℕ, _+_, _/_, _%_}
 use native.Mathlib.Nat.{div-add-mod', mod-lt}
-use native.Mathlib.Omega.{arith}
-use lib.Dec.{eqb, leb}
-use lib.IntN.{ℤ, pos, negℤ}
+use lib.Dec.{leb}
+use lib.IntN.{pos, negℤ}
 use lib.ListN.{length}
 use Rattle.std.specs.Orderings.{Decides}
 use Rattle.std.proofs.shelf.Tests.{and-parts, and-from, leb-true, le-leb, eqb-true, eq-eqb, both-ways}
-use Rattle.market.specs.declared.refusal.Refusal.{Refusal}
 use Rattle.market.specs.Days as Days
-use Rattle.market.specs.Days.{Fits, Numbers, Shape-fits, Lengths-fit, Loads-fit, Factors-fit, Limits-fit, Made, Up-to-loads, Up-to-factors, Up-to-lower, Up-to-upper, Up-to-order, Refused, load, factor, refusal, shape-test, lengths-test, made-test}
+use Rattle.market.specs.Days.{Fits, Numbers, Shape-fits, Lengths-fit, Made, Up-to-loads, Up-to-factors, Up-to-order, Refused, load, factor, refusal, shape-test, lengths-test, made-test}
 use Rattle.market.specs.Scans.{First-out, Ordered}
 use Rattle.market.proofs.Scanning.{decides-all, decides-ordered}
 

@@ -1,7 +1,7 @@
 -- Tests on ranges, and what they tell. Assumes nothing.
 use mathlib.Core.Path.{_≡_, refl, subst, sym}
-use mathlib.Core.Bool.{Bool, true, false, _&&_}
-use Prim.Native.Nat.{ℕ, zero, suc, _<_}
+use mathlib.Core.Bool.{Bool, true, false}
+use Prim.Native.Nat.{ℕ}
 use mathlib.Core.List.{List}
 use lib.Dec.{T}
 use lib.IntN.{ℤ}
@@ -9,7 +9,7 @@ use lib.ListN.{length}
 use lib.Signed.{_≤ℤ_, leZ, leZ-yes}
 use Rattle.std.specs.Orderings.{Decides}
 use Rattle.std.proofs.shelf.Tests.{and-parts, and-from}
-use Rattle.std.proofs.shelf.Ways.{decides-below-and, decides-like}
+use Rattle.std.proofs.shelf.Ways.{decides-below-and}
 use Rattle.market.specs.Scans.{In, in-test, at, In-before, all-below, in-all, Ordered}
 
 -- the test of an order of integers
@@ -22,8 +22,8 @@ decides-le a b = (λ e. leZ-yes (subst T (sym e) tt), λ h. told (leZ a b) (h .l
 
 pub decides-in : (low high x : ℤ) → Decides (in-test low high x) (In low high x)
 decides-in low high x =
-    (λ e. let p = and-parts (leZ low x) (leZ x high) e in record { above = decides-le low x .0 (p .0); below = decides-le x high .0 (p .1) },
-    λ h. and-from (leZ low x) (leZ x high) (decides-le low x .1 (h .above)) (decides-le x high .1 (h .below)))
+    (λ e. let p = and-parts (leZ low x) (leZ x high) e in (decides-le low x .0 (p .0), decides-le x high .0 (p .1)),
+    λ h. and-from (leZ low x) (leZ x high) (decides-le low x .1 (h .0)) (decides-le x high .1 (h .1)))
 
 pub decides-all : (low high : ℤ) (xs : List ℤ) → Decides (in-all low high xs) (In-before low high xs (length xs))
 decides-all low high xs =

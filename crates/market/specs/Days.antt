@@ -6,7 +6,7 @@ use Prim.Native.Nat.{ℕ, _+_, _*_, _≤_, _<_}
 use lib.Dec.{eqb, leb}
 use lib.IntN.{ℤ, pos, negℤ}
 use lib.ListN.{length}
-use lib.Signed.{_≤ℤ_, leZ}
+use lib.Signed.{leZ}
 use Rattle.market.specs.declared.numbers.DayNumbers.{DayNumbers}
 use Rattle.market.specs.declared.refusal.Refusal.{Refusal}
 use Rattle.market.specs.Scans.{at, In-before, First-out, Ordered, First-crossed, in-all, all-below}

@@ -1,17 +1,25 @@
 -- Ranges, and the first cell of a table that is out of its range. Assumes nothing.
-use mathlib.Core.Bool.{Bool, true, _&&_}
-use mathlib.Core.List.{List}
+use mathlib.Core.Bool.{Bool, true, cond, _&&_}
+use mathlib.Core.List.{List, [], _∷_}
 use Prim.Native.Nat.{ℕ, zero, suc, _<_}
-use lib.IntN.{ℤ, pos}
+use lib.IntN.{ℤ, pos, negℤ}
 use lib.ListN.{length, getD}
 use lib.Signed.{_≤ℤ_, leZ}
+use Rattle.std.specs.Options.{mapped}
 use Rattle.std.specs.declared.option.Option.{Option}
 use Rattle.std.specs.declared.option.Option.the-variants.{Some, None}
 
 -- x lies in low to high
-pub record In (low high x : ℤ) : Type 0 where
-  pub above : low ≤ℤ x
-  pub below : x ≤ℤ high
+abbrev pub In : ℤ → ℤ → ℤ → Type 0
+In low high x = (low ≤ℤ x) × (x ≤ℤ high)
+
+-- x lies within ±limit
+abbrev pub Within : ℕ → ℤ → Type 0
+Within limit x = In (negℤ (pos limit)) (pos limit) x
+
+-- x lies in 0 to limit
+abbrev pub Up-to : ℕ → ℤ → Type 0
+Up-to limit x = In (pos 0) (pos limit) x
 
 -- the same as a test
 abbrev pub in-test : ℤ → ℤ → ℤ → Bool
@@ -37,6 +45,11 @@ pub record First-out (low high : ℤ) (xs : List ℤ) (i : ℕ) : Type 0 where
   pub within : i < length xs
   pub before : In-before low high xs i
   pub out : In low high (at xs i) → ⊥
+
+-- the same as a function
+unfoldable pub first-out : ℤ → ℤ → List ℤ → Option ℕ
+first-out low high [] = None
+first-out low high (x ∷ xs) = cond (in-test low high x) (mapped suc (first-out low high xs)) (Some 0)
 
 -- the first cell that does not lie in the range, or none
 abbrev pub Outside : ℤ → ℤ → List ℤ → Option ℕ → Type 0

@@ -1,12 +1,16 @@
 // The market: a day and its numbers, fleets by what they mean, plans judged and price sets bounded.
 mod day;
+mod fleet;
 mod label;
 mod numbers;
 mod refusal;
 mod scan;
 
 pub use day::Day;
+pub use fleet::Fleet;
+pub use fleet::floors_stand;
 pub use label::Label;
 pub use label::label_of;
 pub use numbers::DayNumbers;
+pub use refusal::Broken;
 pub use refusal::Refusal;

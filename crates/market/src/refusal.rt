@@ -5,3 +5,10 @@ pub struct Refusal {
     pub place: usize,
     pub period: usize,
 }
+
+// A rule that a row's schedule breaks, with the period in which it is broken; a fleet tells no place.
+#[derive(Clone, Copy)]
+pub struct Broken {
+    pub rule: u8,
+    pub period: usize,
+}

@@ -1,7 +1,7 @@
-use Rattle.market.specs.Days.{Up-to-loads, Up-to-factors, Up-to-lower, Up-to-upper, Up-to-order, lower-limit, upper-limit, crossed, numbers-of}
+use Rattle.market.specs.Days.{Up-to-loads, Up-to-factors, Up-to-lower, lower-limit, upper-limit, crossed, numbers-of}
 use Rattle.market.proofs.Making.{refused-shape, refused-lengths, refused-load, refused-factor, to-loads, fits}
 use Rattle.market.proofs.numbers.DayNumbers.first_no.Needs as need
-use Rattle.market.proofs.numbers.DayNumbers.first_no.Needs.{Else-not-lengths-fit, In-rest, In-rest-outside, In-rest-outside-2, In-rest-outside-3}
+use Rattle.market.proofs.numbers.DayNumbers.first_no.Needs.{Else-not-lengths-fit, In-rest, In-rest-outside}
 
 -- what has been answered yes, question by question
 loads : (c : Else-not-lengths-fit) → Up-to-loads (numbers-of (c .args .self .now))
