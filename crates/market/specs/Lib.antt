@@ -4,3 +4,4 @@ pub mod Labels
 pub mod Totals
 pub mod Fleet
 pub mod Clearing
+pub mod Access

@@ -1,4 +1,5 @@
 // A day whose numbers are in range.
+mod access;
 mod making;
 
 ghost use mathlib.Core.Path.{_≡_};
