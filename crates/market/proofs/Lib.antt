@@ -5,3 +5,4 @@ pub mod Ints
 pub mod Totals
 pub mod Cells
 pub mod Undercut
+pub mod Injections

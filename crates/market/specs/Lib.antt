@@ -5,3 +5,5 @@ pub mod Totals
 pub mod Fleet
 pub mod Clearing
 pub mod Access
+pub mod Placing
+pub mod Injections

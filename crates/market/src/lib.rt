@@ -3,6 +3,8 @@ mod day;
 mod fleet;
 mod label;
 mod numbers;
+mod placing;
+mod plan;
 mod refusal;
 mod scan;
 
@@ -12,5 +14,7 @@ pub use fleet::floors_stand;
 pub use label::Label;
 pub use label::label_of;
 pub use numbers::DayNumbers;
+pub use placing::place;
+pub use plan::Plan;
 pub use refusal::Broken;
 pub use refusal::Refusal;
