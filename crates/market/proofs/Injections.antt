@@ -8,7 +8,7 @@ use lib.Dec.{eqb}
 use lib.IntN.{ℤ, pos, _+ℤ_, _-ℤ_, _*ℤ_, *ℤ-zero}
 use Rattle.std.proofs.shelf.Signed.{ints}
 use Rattle.std.proofs.shelf.Tests.{cond-true, cond-false, eq-eqb, ne-eqb, cases-eq}
-use Rattle.market.specs.Clearing.{Plan, Placed, output, load, factor, supply, demand, flow}
+use Rattle.market.specs.Clearing.{Plan, output, load, factor, supply, demand, flow}
 use Rattle.market.specs.Days.{Numbers}
 use Rattle.market.specs.Fleet.{Meaning}
 use Rattle.market.specs.Injections.{fed-by, injection}

@@ -6,3 +6,4 @@ pub mod Totals
 pub mod Cells
 pub mod Undercut
 pub mod Injections
+pub mod RowsCost

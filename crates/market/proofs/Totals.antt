@@ -1,6 +1,7 @@
 -- The laws of `total`, the sum of f 0, .., f (n - 1). Assumes nothing.
 use mathlib.Core.Path.{_≡_, refl, sym, ap, _∙_}
-use Prim.Native.Nat.{ℕ, zero, suc, _*_, _<_}
+use Prim.Native.Nat.{ℕ, zero, suc, _+_, _*_, _<_}
+use native.Mathlib.Numerals.{add-one}
 use native.Mathlib.Omega.{arith}
 use lib.IntN.{ℤ, pos, _+ℤ_, _-ℤ_, _*ℤ_, *ℤ-zero, zero-*ℤ}
 use lib.Signed.{_≤ℤ_}
@@ -8,6 +9,9 @@ use Rattle.std.proofs.shelf.Signed.{ints}
 use Rattle.market.specs.Scans.{Within}
 use Rattle.market.specs.Totals.{total}
 use Rattle.market.proofs.Ints.{times-add, add-times}
+
+pub total-more : (n : ℕ) (f : ℕ → ℤ) → total (n + 1) f ≡ total n f +ℤ f n
+total-more n f = ap (λ k. total k f) (add-one n)
 
 pub total-cong : (n : ℕ) (f g : ℕ → ℤ) → ((i : ℕ) → i < n → f i ≡ g i) → total n f ≡ total n g
 total-cong zero f g e = refl

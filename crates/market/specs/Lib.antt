@@ -7,3 +7,4 @@ pub mod Clearing
 pub mod Access
 pub mod Placing
 pub mod Injections
+pub mod Judging

@@ -1,6 +1,7 @@
 // The market: a day and its numbers, fleets by what they mean, plans judged and price sets bounded.
 mod day;
 mod fleet;
+mod judging;
 mod label;
 mod numbers;
 mod placing;

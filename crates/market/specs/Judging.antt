@@ -1,0 +1,26 @@
+-- A plan judged in two parts: its rows, and then its periods. Assumes nothing.
+use mathlib.Core.Path.{_≡_}
+use Prim.Native.Nat.{_*_}
+use lib.ListN.{length}
+use Rattle.std.specs.declared.result.Result.{Result}
+use Rattle.std.specs.declared.result.Result.the-variants.{Ok, Err}
+use Rattle.measures.specs.declared.Grains.{Grains}
+use Rattle.market.specs.declared.refusal.Refusal.{Refusal}
+use Rattle.market.specs.Clearing.{Plan, Placed, Rows-kept, Breaks-first, cost}
+use Rattle.market.specs.Days.{Numbers}
+use Rattle.market.specs.Fleet.{Meaning}
+
+-- the plan has a cell for each row and period
+pub record Plan-sized (d : Numbers) (m : Meaning) (p : Plan) : Type 0 where
+  pub marks : length (p .marks) ≡ m .size * d .periods
+  pub outputs : length (p .outputs) ≡ m .size * d .periods
+
+-- the fleet fits the day, and the plan has its lengths
+pub record Ready (d : Numbers) (m : Meaning) (p : Plan) : Type 0 where
+  pub placed : Placed d m
+  pub sized : Plan-sized d m p
+
+-- every row is lawful, and their costs come to c; or e tells the first rule that a row breaks
+abbrev pub Rows-judged : Numbers → (m : Meaning) → Plan → Result Grains Refusal → Type 0
+Rows-judged d m p (Ok c) = Rows-kept d m p (m .size) × (c .0 ≡ cost d m p)
+Rows-judged d m p (Err e) = Breaks-first d m p e
