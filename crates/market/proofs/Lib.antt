@@ -7,3 +7,4 @@ pub mod Cells
 pub mod Undercut
 pub mod Injections
 pub mod RowsCost
+pub mod Gathering

@@ -39,7 +39,7 @@ module _ (d : Numbers) (m : Meaning) (p : Plan) (facts : Facts m) (ready : Ready
   pub rows-none : Rows-so-far d m p 0 (pos 0)
   rows-none = record { kept = λ k h. absurd (omega arith); sum = refl; small = (omega (arith, ints), omega (arith, ints)) }
 
-  row-fits : (r : ℕ) → r < m .size → Fits m (row d p r)
+  pub row-fits : (r : ℕ) → r < m .size → Fits m (row d p r)
   row-fits r h = record {
       marks = length-part (d .periods) r (m .size) (p .marks) h (ready .sized .marks) ∙ sym (ready .placed .periods);
       outputs = length-part (d .periods) r (m .size) (p .outputs) h (ready .sized .outputs) ∙ sym (ready .placed .periods);

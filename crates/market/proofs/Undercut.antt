@@ -24,7 +24,7 @@ use Rattle.market.proofs.Totals.{total-cong, total-mono, total-sub, total-time
 use Rattle.market.proofs.Cells.{length-part, at-part, length-range, at-range, place-below}
 
 -- what a verdict of Ok holds
-ok-amount : (v : Result Grains Broken) → isOk v ≡ true → (c : Grains) × (v ≡ Ok c) × (amount v ≡ c .0)
+pub ok-amount : (v : Result Grains Broken) → isOk v ≡ true → (c : Grains) × (v ≡ Ok c) × (amount v ≡ c .0)
 ok-amount (Ok c) e = (c, refl, refl)
 ok-amount (Err b) e = let z : _≡_ {A = ℕ} 0 1 = cc in absurd (omega arith)
 

@@ -1,6 +1,9 @@
 // A plan judged: row by row, and then period by period.
+ghost use Prim.Native.Nat.{_<_};
+ghost use Rattle.market.specs.Clearing.{Rows-kept};
 ghost use Rattle.market.specs.Days.{numbers-of};
 ghost use Rattle.market.specs.Fleet.{meaning-of};
+ghost use Rattle.market.specs.Injections.{Drawn, Fed};
 ghost use Rattle.market.specs.Judging.{Ready, Rows-judged};
 use crate::day::Day;
 use crate::fleet::Fleet;
@@ -26,4 +29,37 @@ fn rows_cost<F: Fleet>(day: &Day, fleet: &F, marks: &[u8], outputs: &[i32]) -> R
         }
     }
     Ok(cost)
+}
+
+const MOST_NODES: usize = 16;
+
+// What each node draws in a period, below zero.
+fn drawn(day: &Day, period: usize) -> [i32; MOST_NODES]
+    requires { ⌜ period < now day .numbers .periods ⌝ }
+    ensures { λ r. ⌜ Drawn (numbers-of (now (day .entry) .numbers)) period r (now (day .entry) .numbers .nodes) ⌝ }
+{
+    let periods = day.numbers.periods;
+    let mut fed = [0i32; MOST_NODES];
+    for node in 0..day.numbers.nodes {
+        fed[node] = -day.numbers.loads[node * periods + period];
+    }
+    fed
+}
+
+// What each node feeds in, net, in a period: its rows' outputs less its load.
+fn gathered<F: Fleet>(day: &Day, fleet: &F, marks: &[u8], outputs: &[i32], period: usize) -> [i32; MOST_NODES]
+    requires ready { ⌜ Ready (numbers-of (now day .numbers)) (meaning-of (periods (now fleet)) (size (now fleet)) (node (now fleet)) (verdict (now fleet)) (floor (now fleet))) (record { marks = now marks; outputs = now outputs }) ⌝ }
+    requires kept { ⌜ Rows-kept (numbers-of (now day .numbers)) (meaning-of (periods (now fleet)) (size (now fleet)) (node (now fleet)) (verdict (now fleet)) (floor (now fleet))) (record { marks = now marks; outputs = now outputs }) (size (now fleet)) ⌝ }
+    requires on { ⌜ period < now day .numbers .periods ⌝ }
+    ensures { λ r. ⌜ Fed (numbers-of (now (day .entry) .numbers)) (meaning-of (periods (now (fleet .entry))) (size (now (fleet .entry))) (node (now (fleet .entry))) (verdict (now (fleet .entry))) (floor (now (fleet .entry)))) (record { marks = now (marks .entry); outputs = now (outputs .entry) }) period (size (now (fleet .entry))) r ⌝ }
+{
+    let periods = day.numbers.periods;
+    let mut fed = drawn(day, period);
+    for row in 0..fleet.size() {
+        let Ok(node) = fleet.node(row) else {
+            return fed;
+        };
+        fed[node] = fed[node] + outputs[row * periods + period];
+    }
+    fed
 }
