@@ -1,15 +1,26 @@
 // A plan judged: row by row, and then period by period.
-ghost use Prim.Native.Nat.{_<_};
-ghost use Rattle.market.specs.Clearing.{Rows-kept};
+ghost use mathlib.Core.Path.{_≡_};
+ghost use Prim.Native.Nat.{ℕ, _≤_, _<_};
+ghost use lib.IntN.{_*ℤ_};
+ghost use lib.ListN.{length};
+ghost use Rattle.market.specs.Clearing.{Rows-kept, factor};
 ghost use Rattle.market.specs.Days.{numbers-of};
 ghost use Rattle.market.specs.Fleet.{meaning-of};
 ghost use Rattle.market.specs.Injections.{Drawn, Fed};
 ghost use Rattle.market.specs.Judging.{Ready, Rows-judged};
+ghost use Rattle.market.specs.Scans.{Within, at};
+ghost use Rattle.market.specs.Totals.{total};
 use crate::day::Day;
 use crate::fleet::Fleet;
 use crate::refusal::Refusal;
+use measures::Factor;
+use measures::FactorByTenths;
+use measures::Flow;
+use measures::FlowAdd;
 use measures::Grains;
 use measures::GrainsAdd;
+use measures::Tenths;
+use measures::TenthsAdd;
 
 // The rows' costs, or the first rule that a row breaks. Each row's part of the tables is handed to the fleet in place.
 fn rows_cost<F: Fleet>(day: &Day, fleet: &F, marks: &[u8], outputs: &[i32]) -> Result<Grains, Refusal>
@@ -62,4 +73,31 @@ fn gathered<F: Fleet>(day: &Day, fleet: &F, marks: &[u8], outputs: &[i32], perio
         fed[node] = fed[node] + outputs[row * periods + period];
     }
     fed
+}
+
+// What all nodes feed in, net.
+fn sum(fed: &[i32], nodes: usize) -> Tenths
+    requires few { ⌜ nodes ≤ 16 ⌝ ∗ ⌜ nodes ≤ length (now fed) ⌝ }
+    requires small { ⌜ ((k : ℕ) → k < nodes → Within 680000 (at (now fed) k)) ⌝ }
+    ensures { λ r. ⌜ r .0 ≡ total nodes (λ k. at (now (fed .entry)) k) ⌝ }
+{
+    let mut all = Tenths(0);
+    for node in 0..nodes {
+        all = all + Tenths(fed[node]);
+    }
+    all
+}
+
+// The flow over a line of what the nodes feed in: whole factors, summed before anything is compared.
+fn flow(day: &Day, line: usize, fed: &[i32]) -> Flow
+    requires few { ⌜ line < now day .numbers .lines ⌝ ∗ ⌜ now day .numbers .nodes ≤ length (now fed) ⌝ }
+    requires small { ⌜ ((k : ℕ) → k < now day .numbers .nodes → Within 680000 (at (now fed) k)) ⌝ }
+    ensures { λ r. ⌜ r .0 ≡ total (now (day .entry) .numbers .nodes) (λ k. factor (numbers-of (now (day .entry) .numbers)) line k *ℤ at (now (fed .entry)) k) ⌝ }
+{
+    let nodes = day.numbers.nodes;
+    let mut all = Flow(0);
+    for node in 0..nodes {
+        all = all + Factor(day.numbers.factors[line * nodes + node]) * Tenths(fed[node]);
+    }
+    all
 }
