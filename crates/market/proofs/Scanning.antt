@@ -1,12 +1,14 @@
 -- Tests on ranges, and what they tell. Assumes nothing.
-use mathlib.Core.Path.{_≡_, refl, subst, sym}
+use mathlib.Core.Path.{_≡_, refl, subst, sym, _∙_}
 use mathlib.Core.Bool.{Bool, true, false}
 use Prim.Native.Nat.{ℕ}
 use mathlib.Core.List.{List}
 use lib.Dec.{T}
 use lib.IntN.{ℤ}
 use lib.ListN.{length}
-use lib.Signed.{_≤ℤ_, leZ, leZ-yes}
+use lib.Signed.{_≤ℤ_, leZ, ltZ, leZ-yes}
+use Rattle.std.proofs.shelf.Signed.{ints}
+use native.Mathlib.Omega.{arith}
 use Rattle.std.specs.Orderings.{Decides}
 use Rattle.std.proofs.shelf.Tests.{and-parts, and-from}
 use Rattle.std.proofs.shelf.Ways.{decides-below-and}
@@ -19,6 +21,22 @@ told false t = absurd t
 
 pub decides-le : (a b : ℤ) → Decides (leZ a b) (a ≤ℤ b)
 decides-le a b = (λ e. leZ-yes (subst T (sym e) tt), λ h. told (leZ a b) (h .le))
+
+-- the test of a strict order of two numbers that are A and B, passed and failed
+pub less-told : {a b A B : ℤ} → a ≡ A → b ≡ B → true ≡ ltZ a b → B ≤ℤ A → ⊥
+less-told {a} {b} {A} {B} e f t h = less (λ j. ltZ (sym e j) (sym f j)) t h
+  where
+    plain : (x y : ℤ) → true ≡ ltZ x y → y ≤ℤ x → ⊥
+    plain x y t h = grind (arith, ints)
+
+    less : ltZ A B ≡ ltZ a b → true ≡ ltZ a b → B ≤ℤ A → ⊥
+    less same t h = plain A B (t ∙ sym same) h
+
+pub at-most-told : {a b A B : ℤ} → a ≡ A → b ≡ B → false ≡ ltZ a b → B ≤ℤ A
+at-most-told {a} {b} {A} {B} e f t = plain A B (t ∙ λ j. ltZ (e j) (f j))
+  where
+    plain : (x y : ℤ) → false ≡ ltZ x y → y ≤ℤ x
+    plain x y t = grind (arith, ints)
 
 pub decides-in : (low high x : ℤ) → Decides (in-test low high x) (In low high x)
 decides-in low high x =

@@ -6,7 +6,7 @@ ghost use lib.ListN.{length};
 ghost use Rattle.market.specs.Clearing.{Rows-kept, factor};
 ghost use Rattle.market.specs.Days.{numbers-of};
 ghost use Rattle.market.specs.Fleet.{meaning-of};
-ghost use Rattle.market.specs.Injections.{Drawn, Fed};
+ghost use Rattle.market.specs.Injections.{Drawn, Fed, flow-of, Lines-told};
 ghost use Rattle.market.specs.Judging.{Ready, Rows-judged};
 ghost use Rattle.market.specs.Scans.{Within, at};
 ghost use Rattle.market.specs.Totals.{total};
@@ -100,4 +100,24 @@ fn flow(day: &Day, line: usize, fed: &[i32]) -> Flow
         all = all + Factor(day.numbers.factors[line * nodes + node]) * Tenths(fed[node]);
     }
     all
+}
+
+// The first line whose limit is broken by what the nodes feed in, the upper limit asked before the lower.
+fn line_broken(day: &Day, fed: &[i32], period: usize) -> Option<Refusal>
+    requires few { ⌜ now day .numbers .nodes ≤ length (now fed) ⌝ ∗ ⌜ period < 96 ⌝ }
+    requires small { ⌜ ((k : ℕ) → k < now day .numbers .nodes → Within 680000 (at (now fed) k)) ⌝ }
+    ensures { λ r. ⌜ Lines-told (numbers-of (now (day .entry) .numbers)) (flow-of (numbers-of (now (day .entry) .numbers)) (now (fed .entry))) period r ⌝ }
+{
+    for line in 0..day.numbers.lines {
+        let carried = flow(day, line, fed);
+        let upper = Tenths(day.numbers.upper[line]).flow();
+        let lower = Tenths(day.numbers.lower[line]).flow();
+        if carried.exceeds(upper) {
+            return Some(Refusal { number: 17, place: line, period: period + 1 });
+        }
+        if lower.exceeds(carried) {
+            return Some(Refusal { number: 18, place: line, period: period + 1 });
+        }
+    }
+    None
 }

@@ -2,6 +2,7 @@
 // a product of two measures, and its factor is exact.
 ghost use mathlib.Core.Path.{_≡_};
 ghost use lib.IntN.{pos, _+ℤ_, _-ℤ_, _*ℤ_};
+ghost use lib.Signed.{ltZ};
 ghost use mir.Syntax.{w32, w64};
 ghost use mir.Val.{SFits};
 use std::ops::Add;
@@ -66,6 +67,14 @@ impl Tenths {
         ensures { λ r. ⌜ r .0 ≡ pos 1000 *ℤ self .0 ⌝ }
     {
         Flow(THOUSANDTHS * i64::from(self.0))
+    }
+}
+
+impl Flow {
+    pub fn exceeds(self, other: Flow) -> bool
+        ensures { λ r. ⌜ r ≡ ltZ (other .0) (self .0) ⌝ }
+    {
+        other.0 < self.0
     }
 }
 

@@ -2,11 +2,11 @@ use mathlib.Core.Path.{_≡_, _∙_}
 use Prim.Native.Nat.{_+_, _*_, _<_}
 use native.Mathlib.Omega.{arith}
 use lib.IntN.{pos, _-ℤ_}
-use lib.ListN.{length, set, length-set}
+use lib.ListN.{length, length-set}
 use Rattle.std.proofs.shelf.Signed.{ints}
 use Rattle.market.specs.Clearing.{load}
 use Rattle.market.specs.Days.{Made, numbers-of}
-use Rattle.market.specs.Scans.{Within, at}
+use Rattle.market.specs.Scans.{Within}
 use Rattle.market.proofs.Cells.{place-below, set-more}
 use Rattle.market.proofs.Making.{made-so}
 use Rattle.market.proofs.judging.drawn.Needs as need

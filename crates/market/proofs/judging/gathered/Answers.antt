@@ -1,17 +1,16 @@
-use mathlib.Core.Path.{_≡_, sym, ap, subst, _∙_}
+use mathlib.Core.Path.{_≡_, sym, subst, _∙_}
 use Prim.Native.Nat.{_+_, _*_, _<_}
 use native.Mathlib.Omega.{arith}
-use lib.IntN.{pos, _+ℤ_}
-use lib.ListN.{length, set, length-set}
+use lib.IntN.{_+ℤ_}
+use lib.ListN.{set, length-set}
 use mir.Syntax.{w32}
 use mir.Val.{toZ, ofZ}
 use Rattle.std.proofs.shelf.Signed.{ints}
-use Rattle.market.specs.Clearing.{Plan, output}
 use Rattle.market.specs.Days.{Made, numbers-of}
 use Rattle.market.specs.Fleet.{Meaning, meaning-of}
 use Rattle.market.specs.Injections.{Fed}
 use Rattle.market.specs.Scans.{Within, at}
-use Rattle.market.proofs.Gathering.{node-is, sum-small, fed-more, output-small, fed-small, cell-inside}
+use Rattle.market.proofs.Gathering.{node-is, fed-more, output-small, fed-small, cell-inside}
 use Rattle.market.proofs.Making.{made-so}
 use Rattle.market.proofs.judging.gathered.Given as given
 use Rattle.market.proofs.judging.gathered.Needs as need
