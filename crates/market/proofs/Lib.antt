@@ -8,3 +8,4 @@ pub mod Undercut
 pub mod Injections
 pub mod RowsCost
 pub mod Gathering
+pub mod Periods

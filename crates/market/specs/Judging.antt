@@ -1,12 +1,14 @@
 -- A plan judged in two parts: its rows, and then its periods. Assumes nothing.
 use mathlib.Core.Path.{_≡_}
-use Prim.Native.Nat.{_*_}
+use Prim.Native.Nat.{ℕ, _*_}
 use lib.ListN.{length}
+use Rattle.std.specs.declared.option.Option.{Option}
+use Rattle.std.specs.declared.option.Option.the-variants.{Some, None}
 use Rattle.std.specs.declared.result.Result.{Result}
 use Rattle.std.specs.declared.result.Result.the-variants.{Ok, Err}
 use Rattle.measures.specs.declared.Grains.{Grains}
 use Rattle.market.specs.declared.refusal.Refusal.{Refusal}
-use Rattle.market.specs.Clearing.{Plan, Placed, Rows-kept, Breaks-first, cost}
+use Rattle.market.specs.Clearing.{Plan, Placed, Rows-kept, Balanced, Lines-kept, Cleared, Breaks-first, cost}
 use Rattle.market.specs.Days.{Numbers}
 use Rattle.market.specs.Fleet.{Meaning}
 
@@ -24,3 +26,8 @@ pub record Ready (d : Numbers) (m : Meaning) (p : Plan) : Type 0 where
 abbrev pub Rows-judged : Numbers → (m : Meaning) → Plan → Result Grains Refusal → Type 0
 Rows-judged d m p (Ok c) = Rows-kept d m p (m .size) × (c .0 ≡ cost d m p)
 Rows-judged d m p (Err e) = Breaks-first d m p e
+
+-- a period keeps the market rules, or e tells the first that is broken in it, where all before it are kept
+abbrev pub Period-told : Numbers → (m : Meaning) → Plan → ℕ → Option Refusal → Type 0
+Period-told d m p t None = Balanced d m p t × Lines-kept d m p t (d .lines)
+Period-told d m p t (Some e) = Cleared d m p t → Breaks-first d m p e

@@ -7,7 +7,7 @@ ghost use Rattle.market.specs.Clearing.{Rows-kept, factor};
 ghost use Rattle.market.specs.Days.{numbers-of};
 ghost use Rattle.market.specs.Fleet.{meaning-of};
 ghost use Rattle.market.specs.Injections.{Drawn, Fed, flow-of, Lines-told};
-ghost use Rattle.market.specs.Judging.{Ready, Rows-judged};
+ghost use Rattle.market.specs.Judging.{Ready, Rows-judged, Period-told};
 ghost use Rattle.market.specs.Scans.{Within, at};
 ghost use Rattle.market.specs.Totals.{total};
 use crate::day::Day;
@@ -47,7 +47,8 @@ const MOST_NODES: usize = 16;
 // What each node draws in a period, below zero.
 fn drawn(day: &Day, period: usize) -> [i32; MOST_NODES]
     requires { ⌜ period < now day .numbers .periods ⌝ }
-    ensures { λ r. ⌜ Drawn (numbers-of (now (day .entry) .numbers)) period r (now (day .entry) .numbers .nodes) ⌝ }
+    ensures long { λ r. ⌜ length r ≡ 16 ⌝ }
+    ensures drawn { λ r. ⌜ Drawn (numbers-of (now (day .entry) .numbers)) period r (now (day .entry) .numbers .nodes) ⌝ }
 {
     let periods = day.numbers.periods;
     let mut fed = [0i32; MOST_NODES];
@@ -62,7 +63,8 @@ fn gathered<F: Fleet>(day: &Day, fleet: &F, marks: &[u8], outputs: &[i32], perio
     requires ready { ⌜ Ready (numbers-of (now day .numbers)) (meaning-of (periods (now fleet)) (size (now fleet)) (node (now fleet)) (verdict (now fleet)) (floor (now fleet))) (record { marks = now marks; outputs = now outputs }) ⌝ }
     requires kept { ⌜ Rows-kept (numbers-of (now day .numbers)) (meaning-of (periods (now fleet)) (size (now fleet)) (node (now fleet)) (verdict (now fleet)) (floor (now fleet))) (record { marks = now marks; outputs = now outputs }) (size (now fleet)) ⌝ }
     requires on { ⌜ period < now day .numbers .periods ⌝ }
-    ensures { λ r. ⌜ Fed (numbers-of (now (day .entry) .numbers)) (meaning-of (periods (now (fleet .entry))) (size (now (fleet .entry))) (node (now (fleet .entry))) (verdict (now (fleet .entry))) (floor (now (fleet .entry)))) (record { marks = now (marks .entry); outputs = now (outputs .entry) }) period (size (now (fleet .entry))) r ⌝ }
+    ensures long { λ r. ⌜ length r ≡ 16 ⌝ }
+    ensures fed { λ r. ⌜ Fed (numbers-of (now (day .entry) .numbers)) (meaning-of (periods (now (fleet .entry))) (size (now (fleet .entry))) (node (now (fleet .entry))) (verdict (now (fleet .entry))) (floor (now (fleet .entry)))) (record { marks = now (marks .entry); outputs = now (outputs .entry) }) period (size (now (fleet .entry))) r ⌝ }
 {
     let periods = day.numbers.periods;
     let mut fed = drawn(day, period);
@@ -120,4 +122,18 @@ fn line_broken(day: &Day, fed: &[i32], period: usize) -> Option<Refusal>
         }
     }
     None
+}
+
+// The first market rule that is broken in a period: the balance, and then line by line.
+fn period_broken<F: Fleet>(day: &Day, fleet: &F, marks: &[u8], outputs: &[i32], period: usize) -> Option<Refusal>
+    requires ready { ⌜ Ready (numbers-of (now day .numbers)) (meaning-of (periods (now fleet)) (size (now fleet)) (node (now fleet)) (verdict (now fleet)) (floor (now fleet))) (record { marks = now marks; outputs = now outputs }) ⌝ }
+    requires kept { ⌜ Rows-kept (numbers-of (now day .numbers)) (meaning-of (periods (now fleet)) (size (now fleet)) (node (now fleet)) (verdict (now fleet)) (floor (now fleet))) (record { marks = now marks; outputs = now outputs }) (size (now fleet)) ⌝ }
+    requires on { ⌜ period < now day .numbers .periods ⌝ }
+    ensures { λ r. ⌜ Period-told (numbers-of (now (day .entry) .numbers)) (meaning-of (periods (now (fleet .entry))) (size (now (fleet .entry))) (node (now (fleet .entry))) (verdict (now (fleet .entry))) (floor (now (fleet .entry)))) (record { marks = now (marks .entry); outputs = now (outputs .entry) }) period r ⌝ }
+{
+    let fed = gathered(day, fleet, marks, outputs, period);
+    if sum(&fed, day.numbers.nodes).0 != 0 {
+        return Some(Refusal { number: 16, place: 0, period: period + 1 });
+    }
+    line_broken(day, &fed, period)
 }
