@@ -127,11 +127,14 @@ pub record In-range (d : Numbers) (m : Meaning) (s : PriceSet) : Type 0 where
 abbrev pub No-plan-undercuts : Numbers → Meaning → PriceSet → Type 0
 No-plan-undercuts d m s = (p : Plan) → Lawful d m p → floor d m s ≤ℤ cost d m p
 
--- the fleet runs over the day's periods, and stands at its nodes
-pub record Placed (d : Numbers) (m : Meaning) : Type 0 where
-  pub periods : m .periods ≡ d .periods
+-- the fleet has t periods and 1 to 32 rows, each at a node below n
+pub record Placed-at (m : Meaning) (t n : ℕ) : Type 0 where
+  pub periods : m .periods ≡ t
   pub some : (1 ≤ m .size) × (m .size ≤ 32)
-  pub nodes : (r : ℕ) → r < m .size → m .node r < d .nodes
+  pub nodes : (r : ℕ) → r < m .size → m .node r < n
+
+abbrev pub Placed : Numbers → Meaning → Type 0
+Placed d m = Placed-at m (d .periods) (d .nodes)
 
 -- few lines and small factors, so that no net price passes its limit
 pub record Moderate (d : Numbers) : Type 0 where

@@ -20,11 +20,14 @@ abbrev pub Misplaced : Meaning → ℕ → Option ℕ → Type 0
 Misplaced m n None = Nodes-below m n (m .size)
 Misplaced m n (Some r) = First-misplaced m n r
 
--- as many periods as the day, and 1 to 32 rows
-pub record Sizes-fit (d : Numbers) (m : Meaning) : Type 0 where
-  pub periods : m .periods ≡ d .periods
+-- t periods, and 1 to 32 rows
+pub record Sizes-fit (m : Meaning) (t : ℕ) : Type 0 where
+  pub periods : m .periods ≡ t
   pub some : (1 ≤ m .size) × (m .size ≤ 32)
 
-pub data Unplaced (d : Numbers) (m : Meaning) : Refusal → Type 0 where
-  sizes : (Sizes-fit d m → ⊥) → Unplaced d m (refusal 4 0 0)
-  row : (r : ℕ) → Sizes-fit d m → First-misplaced m (d .nodes) r → Unplaced d m (refusal 6 r 0)
+pub data Unplaced-at (m : Meaning) (t n : ℕ) : Refusal → Type 0 where
+  sizes : (Sizes-fit m t → ⊥) → Unplaced-at m t n (refusal 4 0 0)
+  row : (r : ℕ) → Sizes-fit m t → First-misplaced m n r → Unplaced-at m t n (refusal 6 r 0)
+
+abbrev pub Unplaced : Numbers → Meaning → Refusal → Type 0
+Unplaced d m = Unplaced-at m (d .periods) (d .nodes)
