@@ -12,6 +12,7 @@ mod scan;
 pub use day::Day;
 pub use fleet::Fleet;
 pub use fleet::floors_stand;
+pub use judging::judge;
 pub use label::Label;
 pub use label::label_of;
 pub use numbers::DayNumbers;
