@@ -9,3 +9,4 @@ pub mod Injections
 pub mod RowsCost
 pub mod Gathering
 pub mod Periods
+pub mod Rejecting

@@ -44,7 +44,12 @@ pub data Refused (d : Numbers) (m : Meaning) (p : Plan) : Refusal → Type 0 whe
   lengths : Placed d m → (Plan-sized d m p → ⊥) → Refused d m p (refusal 8 0 0)
   broken : (e : Refusal) → Ready d m p → Breaks-first d m p e → Refused d m p e
 
+-- told rightly: the fleet does not fit, or the plan is not lawful
+pub record Rejected (d : Numbers) (m : Meaning) (p : Plan) (e : Refusal) : Type 0 where
+  pub first : Refused d m p e
+  pub rightly : Placed d m → Lawful d m p → ⊥
+
 -- a lawful plan and its cost, or the first no
 abbrev pub Answered : Numbers → (m : Meaning) → Plan → Result Grains Refusal → Type 0
 Answered d m p (Ok c) = Placed d m × Lawful d m p × (c .0 ≡ cost d m p)
-Answered d m p (Err e) = Refused d m p e
+Answered d m p (Err e) = Rejected d m p e
