@@ -16,7 +16,7 @@ use Rattle.market.specs.declared.refusal.Broken.{Broken}
 use Rattle.market.specs.Clearing.{Plan, row, output, load, Rows-kept}
 use Rattle.market.specs.Days.{Numbers, Made}
 use Rattle.market.specs.Fleet.{Meaning, Facts, node-answer}
-use Rattle.market.specs.Injections.{fed-by, Drawn, Fed}
+use Rattle.market.specs.Injections.{fed-by, Fed}
 use Rattle.market.specs.Judging.{Ready}
 use Rattle.market.specs.Scans.{at, Within}
 use Rattle.market.specs.Totals.{total}
@@ -40,9 +40,6 @@ node-is m r n h is = node-told _ n (m .node r) _ (lt-ltb r (m .size) h) is
 fed-bound : (r : ℕ) (x y : ℤ) → r ≤ 32 → Within (r * 20000) x → Within 40000 y → Within 680000 (x -ℤ y)
 fed-bound r x y few h k = (omega (arith, ints), omega (arith, ints))
 
-pub sum-small : (x y : ℤ) → Within 680000 x → Within 20000 y → Within 700000 (x +ℤ y)
-sum-small x y h k = (omega (arith, ints), omega (arith, ints))
-
 one-more : (a b x y z : ℤ) → a ≡ x -ℤ y → z ≡ x +ℤ b → a +ℤ b ≡ z -ℤ y
 one-more a b x y z e f = omega (arith, ints)
 
@@ -50,9 +47,6 @@ same : (a x y z : ℤ) → a ≡ x -ℤ y → z ≡ x +ℤ pos 0 → a ≡ z -�
 same a x y z e f = omega (arith, ints)
 
 module _ (d : Numbers) (m : Meaning) (p : Plan) (t : ℕ) where
-  pub fed-none : (fed : List ℤ) → Drawn d t fed (d .nodes) → Fed d m p t 0 fed
-  fed-none fed h k within = h k within
-
   pub fed-more : (r n : ℕ) (fed : List ℤ) → n ≡ m .node r → n < length fed → n < d .nodes → Fed d m p t r fed → Fed d m p t (r + 1) (set fed n (at fed n +ℤ output d p r t))
   fed-more r n fed is within inside h k kn =
       let step = total-more r (fed-by d m p t k) in

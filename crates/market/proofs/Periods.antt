@@ -11,15 +11,15 @@ use Rattle.std.specs.declared.option.Option.{Option}
 use Rattle.std.specs.declared.option.Option.the-variants.{Some, None}
 use Rattle.std.proofs.shelf.Signed.{ints}
 use Rattle.market.specs.declared.refusal.Refusal.{Refusal}
-use Rattle.market.specs.Clearing.{Plan, Rows-kept, Balanced, Lines-kept, Cleared, Breaks-first, balance, upper-limit, lower-limit, factor, supply, demand, flow}
-use Rattle.market.specs.Days.{Numbers, refusal}
+use Rattle.market.specs.Clearing.{Plan, Rows-kept, Balanced, Lines-kept, Cleared, Breaks-first, upper-limit, lower-limit, factor, supply, demand, flow}
+use Rattle.market.specs.Days.{Numbers}
 use Rattle.market.specs.Fleet.{Meaning}
 use Rattle.market.specs.Injections.{Fed, flow-of, Kept-before, Line-broken, over, under, Lines-told}
 use Rattle.market.specs.Judging.{Period-told}
 use Rattle.market.specs.Scans.{at, Within}
 use Rattle.market.specs.Totals.{total}
 use Rattle.market.proofs.Injections.{flow-gathered, balance-gathered}
-use Rattle.market.proofs.Totals.{total-cong, total-within}
+use Rattle.market.proofs.Totals.{total-cong}
 
 -- a sum over at most 16 nodes fits its cell
 sum-fits : (n : ℕ) (x : ℤ) → n ≤ 16 → Within (n * 680000) x → toZ w32 (ofZ w32 x) ≡ x

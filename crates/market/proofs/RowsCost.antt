@@ -1,10 +1,10 @@
 -- The rows of a plan, judged one after another. Assumes nothing.
-use mathlib.Core.Path.{_≡_, refl, sym, ap, subst, _∙_}
+use mathlib.Core.Path.{_≡_, sym, ap, _∙_}
 use Prim.Native.Nat.{ℕ, suc, _+_, _-_, _*_, _≤_, _<_}
 use native.Mathlib.Nat.{mul-le-mul-right}
 use native.Mathlib.Omega.{arith}
 use borrow.Author.Count.{below-more}
-use lib.IntN.{ℤ, pos, _+ℤ_}
+use lib.IntN.{ℤ, _+ℤ_}
 use lib.ListN.{take, drop}
 use Rattle.std.specs.Results.{isOk}
 use Rattle.std.specs.declared.result.Result.{Result}
@@ -16,7 +16,7 @@ use Rattle.market.specs.declared.refusal.Broken.{Broken}
 use Rattle.market.specs.Clearing.{Plan, part, row, amount, Rows-kept, Breaks-first, row-rule, cost}
 use Rattle.market.specs.Days.{Numbers, refusal}
 use Rattle.market.specs.Fleet.{Meaning, Facts, Fits, verdict-answer}
-use Rattle.market.specs.Judging.{Ready, Rows-judged}
+use Rattle.market.specs.Judging.{Ready}
 use Rattle.market.specs.Scans.{Within}
 use Rattle.market.specs.Totals.{total}
 use Rattle.market.proofs.Cells.{length-part}
@@ -36,9 +36,6 @@ pub part-ends : (r n size : ℕ) → r < size → r * n + n ≤ size * n
 part-ends r n size h = let k : suc r * n ≤ size * n = mul-le-mul-right n h in omega arith
 
 module _ (d : Numbers) (m : Meaning) (p : Plan) (facts : Facts m) (ready : Ready d m p) where
-  pub rows-none : Rows-so-far d m p 0 (pos 0)
-  rows-none = record { kept = λ k h. absurd (omega arith); sum = refl; small = (omega (arith, ints), omega (arith, ints)) }
-
   pub row-fits : (r : ℕ) → r < m .size → Fits m (row d p r)
   row-fits r h = record {
       marks = length-part (d .periods) r (m .size) (p .marks) h (ready .sized .marks) ∙ sym (ready .placed .periods);
@@ -68,6 +65,3 @@ module _ (d : Numbers) (m : Meaning) (p : Plan) (facts : Facts m) (ready : Ready
       sum = (λ j. so .sum j +ℤ sym (ap amount is) j) ∙ sym (total-more r (λ k. amount (m .verdict k (row d p k))));
       small = joined r c (more .0) (so .small) (facts .costs r (row d p r) more h (row-fits r h) is);
     }
-
-  pub rows-all : (r : ℕ) (c : Grains) → r ≡ m .size → Rows-so-far d m p r (c .0) → Rows-judged d m p (Ok c)
-  rows-all r c e so = (subst (Rows-kept d m p) e (so .kept), so .sum ∙ ap (λ n. total n (λ k. amount (m .verdict k (row d p k)))) e)

@@ -93,11 +93,3 @@ priced-answer q floor =
 abbrev pub floor-answer : Meaning → ℕ → RowPrices → Result Grains Broken
 floor-answer m r q =
     cond (ltb r (m .size) && (eqb (length (q .net)) (m .periods) && (eqb (length (q .rise)) (m .periods) && eqb (length (q .fall)) (m .periods)))) (priced-answer q (m .floor r q)) (Err (broken 8 0))
-
--- two fleets that no question tells apart
-pub record Same (m n : Meaning) : Type 0 where
-  pub periods : m .periods ≡ n .periods
-  pub size : m .size ≡ n .size
-  pub node : (r : ℕ) → r < m .size → m .node r ≡ n .node r
-  pub verdict : (r : ℕ) (s : Schedule) → r < m .size → Fits m s → m .verdict r s ≡ n .verdict r s
-  pub floor : (r : ℕ) (q : RowPrices) → r < m .size → Priced m q → m .floor r q ≡ n .floor r q

@@ -1,11 +1,10 @@
-use mathlib.Core.Path.{_≡_, sym, ap, subst, _∙_}
+use mathlib.Core.Path.{sym, ap, subst}
 use Prim.Native.Nat.{ℕ, _*_, _<_, _≤_}
 use native.Mathlib.Omega.{arith}
-use lib.IntN.{pos}
 use lib.ListN.{length}
 use mir.Syntax.{w32}
-use mir.Val.{toZ, ofZ}
-use Rattle.market.specs.Clearing.{Plan, Balanced, balance}
+use mir.Val.{ofZ}
+use Rattle.market.specs.Clearing.{Plan, balance}
 use Rattle.market.specs.Days.{Made, Numbers, numbers-of}
 use Rattle.market.specs.Fleet.{Meaning, meaning-of}
 use Rattle.market.specs.Scans.{Within, at}
