@@ -15,7 +15,7 @@ use crate::refusal::Refusal;
 
 // A cell for each row and period.
 fn row_cells<F: Fleet>(day: &Day, fleet: &F) -> usize
-    ensures { result ≡ size fleet.now * day.now.numbers.periods }
+    ensures { result ≡ F.size fleet.now * day.now.numbers.periods }
 {
     fleet.size() * day.numbers.periods
 }
@@ -29,7 +29,7 @@ fn line_cells(day: &Day) -> usize
 
 // 8 unless the plan has a mark and an output for each row and period.
 pub fn plan_lengths<F: Fleet>(day: &Day, fleet: &F, plan: &Plan) -> Result<(), Refusal>
-    ensures { LengthsTold (PlanSized (numbers_of day.now.numbers) (meaning_of (periods fleet.now) (size fleet.now) (node fleet.now) (verdict fleet.now) (floor fleet.now)) (plan_of plan.now)) result }
+    ensures { LengthsTold (PlanSized (numbers_of day.now.numbers) (meaning_of (F.periods fleet.now) (F.size fleet.now) (F.node fleet.now) (F.verdict fleet.now) (F.floor fleet.now)) (plan_of plan.now)) result }
 {
     let cells = row_cells(day, fleet);
     if plan.marks.len() != cells || plan.outputs.len() != cells {
@@ -44,7 +44,7 @@ pub fn plan_lengths<F: Fleet>(day: &Day, fleet: &F, plan: &Plan) -> Result<(), R
 
 // 8 unless the price set has a price for each of its items and periods.
 pub fn price_lengths<F: Fleet>(day: &Day, fleet: &F, prices: &PriceSet) -> Result<(), Refusal>
-    ensures { LengthsTold (Sized (numbers_of day.now.numbers) (meaning_of (periods fleet.now) (size fleet.now) (node fleet.now) (verdict fleet.now) (floor fleet.now)) (prices_of prices.now)) result }
+    ensures { LengthsTold (Sized (numbers_of day.now.numbers) (meaning_of (F.periods fleet.now) (F.size fleet.now) (F.node fleet.now) (F.verdict fleet.now) (F.floor fleet.now)) (prices_of prices.now)) result }
 {
     let rows = row_cells(day, fleet);
     let lines = line_cells(day);

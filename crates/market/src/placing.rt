@@ -13,7 +13,7 @@ const MOST_ROWS: usize = 32;
 
 // The first row that does not stand at a node of the day.
 fn misplaced<F: Fleet>(fleet: &F, nodes: usize) -> Option<usize>
-    ensures { Misplaced (meaning_of (periods fleet.now) (size fleet.now) (node fleet.now) (verdict fleet.now) (floor fleet.now)) nodes result }
+    ensures { Misplaced (meaning_of (F.periods fleet.now) (F.size fleet.now) (F.node fleet.now) (F.verdict fleet.now) (F.floor fleet.now)) nodes result }
 {
     for row in 0..fleet.size() {
         let Ok(node) = fleet.node(row) else {
@@ -28,7 +28,7 @@ fn misplaced<F: Fleet>(fleet: &F, nodes: usize) -> Option<usize>
 
 // Whether the fleet has so many periods and 1 to 32 rows, each at one of the nodes.
 fn fit<F: Fleet>(fleet: &F, count: usize, nodes: usize) -> Result<(), Refusal>
-    ensures { MatchResult result (λ _. PlacedAt (meaning_of (periods fleet.now) (size fleet.now) (node fleet.now) (verdict fleet.now) (floor fleet.now)) count nodes) (λ e. UnplacedAt (meaning_of (periods fleet.now) (size fleet.now) (node fleet.now) (verdict fleet.now) (floor fleet.now)) count nodes e) }
+    ensures { MatchResult result (λ _. PlacedAt (meaning_of (F.periods fleet.now) (F.size fleet.now) (F.node fleet.now) (F.verdict fleet.now) (F.floor fleet.now)) count nodes) (λ e. UnplacedAt (meaning_of (F.periods fleet.now) (F.size fleet.now) (F.node fleet.now) (F.verdict fleet.now) (F.floor fleet.now)) count nodes e) }
 {
     let size = fleet.size();
     if fleet.periods() != count || size < 1 || size > MOST_ROWS {
@@ -50,7 +50,7 @@ fn fit<F: Fleet>(fleet: &F, count: usize, nodes: usize) -> Result<(), Refusal>
 
 // Whether the fleet fits the day.
 pub fn place<F: Fleet>(day: &Day, fleet: &F) -> Result<(), Refusal>
-    ensures { MatchResult result (λ _. Placed (numbers_of day.now.numbers) (meaning_of (periods fleet.now) (size fleet.now) (node fleet.now) (verdict fleet.now) (floor fleet.now))) (λ e. Unplaced (numbers_of day.now.numbers) (meaning_of (periods fleet.now) (size fleet.now) (node fleet.now) (verdict fleet.now) (floor fleet.now)) e) }
+    ensures { MatchResult result (λ _. Placed (numbers_of day.now.numbers) (meaning_of (F.periods fleet.now) (F.size fleet.now) (F.node fleet.now) (F.verdict fleet.now) (F.floor fleet.now))) (λ e. Unplaced (numbers_of day.now.numbers) (meaning_of (F.periods fleet.now) (F.size fleet.now) (F.node fleet.now) (F.verdict fleet.now) (F.floor fleet.now)) e) }
 {
     fit(fleet, day.numbers.periods, day.numbers.nodes)
 }

@@ -24,8 +24,8 @@ fn rows_cost<F: Fleet>(
     marks: &[u8],
     outputs: &[i32],
 ) -> Result<Grains, Refusal>
-    requires { Ready (numbers_of day.now.numbers) (meaning_of (periods fleet.now) (size fleet.now) (node fleet.now) (verdict fleet.now) (floor fleet.now)) (record { marks = marks.now; outputs = outputs.now }) }
-    ensures judged { RowsJudged (numbers_of day.now.numbers) (meaning_of (periods fleet.now) (size fleet.now) (node fleet.now) (verdict fleet.now) (floor fleet.now)) (record { marks = marks.entry.now; outputs = outputs.now }) result }
+    requires { Ready (numbers_of day.now.numbers) (meaning_of (F.periods fleet.now) (F.size fleet.now) (F.node fleet.now) (F.verdict fleet.now) (F.floor fleet.now)) (record { marks = marks.now; outputs = outputs.now }) }
+    ensures judged { RowsJudged (numbers_of day.now.numbers) (meaning_of (F.periods fleet.now) (F.size fleet.now) (F.node fleet.now) (F.verdict fleet.now) (F.floor fleet.now)) (record { marks = marks.entry.now; outputs = outputs.now }) result }
     ensures small { SmallTold result }
 {
     let periods = day.numbers.periods;
@@ -71,11 +71,11 @@ fn gathered<F: Fleet>(
     outputs: &[i32],
     period: usize,
 ) -> [i32; MOST_NODES]
-    requires ready { Ready (numbers_of day.now.numbers) (meaning_of (periods fleet.now) (size fleet.now) (node fleet.now) (verdict fleet.now) (floor fleet.now)) (record { marks = marks.now; outputs = outputs.now }) }
-    requires kept { RowsKept (numbers_of day.now.numbers) (meaning_of (periods fleet.now) (size fleet.now) (node fleet.now) (verdict fleet.now) (floor fleet.now)) (record { marks = marks.now; outputs = outputs.now }) (size fleet.now) }
+    requires ready { Ready (numbers_of day.now.numbers) (meaning_of (F.periods fleet.now) (F.size fleet.now) (F.node fleet.now) (F.verdict fleet.now) (F.floor fleet.now)) (record { marks = marks.now; outputs = outputs.now }) }
+    requires kept { RowsKept (numbers_of day.now.numbers) (meaning_of (F.periods fleet.now) (F.size fleet.now) (F.node fleet.now) (F.verdict fleet.now) (F.floor fleet.now)) (record { marks = marks.now; outputs = outputs.now }) (F.size fleet.now) }
     requires on { period < day.now.numbers.periods }
     ensures long { length result ≡ 16 }
-    ensures fed { Fed (numbers_of day.now.numbers) (meaning_of (periods fleet.now) (size fleet.now) (node fleet.now) (verdict fleet.now) (floor fleet.now)) (record { marks = marks.entry.now; outputs = outputs.now }) period (size fleet.now) result }
+    ensures fed { Fed (numbers_of day.now.numbers) (meaning_of (F.periods fleet.now) (F.size fleet.now) (F.node fleet.now) (F.verdict fleet.now) (F.floor fleet.now)) (record { marks = marks.entry.now; outputs = outputs.now }) period (F.size fleet.now) result }
 {
     let periods = day.numbers.periods;
     let size = fleet.size();
@@ -152,10 +152,10 @@ fn period_broken<F: Fleet>(
     outputs: &[i32],
     period: usize,
 ) -> Option<Refusal>
-    requires ready { Ready (numbers_of day.now.numbers) (meaning_of (periods fleet.now) (size fleet.now) (node fleet.now) (verdict fleet.now) (floor fleet.now)) (record { marks = marks.now; outputs = outputs.now }) }
-    requires kept { RowsKept (numbers_of day.now.numbers) (meaning_of (periods fleet.now) (size fleet.now) (node fleet.now) (verdict fleet.now) (floor fleet.now)) (record { marks = marks.now; outputs = outputs.now }) (size fleet.now) }
+    requires ready { Ready (numbers_of day.now.numbers) (meaning_of (F.periods fleet.now) (F.size fleet.now) (F.node fleet.now) (F.verdict fleet.now) (F.floor fleet.now)) (record { marks = marks.now; outputs = outputs.now }) }
+    requires kept { RowsKept (numbers_of day.now.numbers) (meaning_of (F.periods fleet.now) (F.size fleet.now) (F.node fleet.now) (F.verdict fleet.now) (F.floor fleet.now)) (record { marks = marks.now; outputs = outputs.now }) (F.size fleet.now) }
     requires on { period < day.now.numbers.periods }
-    ensures { PeriodTold (numbers_of day.now.numbers) (meaning_of (periods fleet.now) (size fleet.now) (node fleet.now) (verdict fleet.now) (floor fleet.now)) (record { marks = marks.entry.now; outputs = outputs.now }) period result }
+    ensures { PeriodTold (numbers_of day.now.numbers) (meaning_of (F.periods fleet.now) (F.size fleet.now) (F.node fleet.now) (F.verdict fleet.now) (F.floor fleet.now)) (record { marks = marks.entry.now; outputs = outputs.now }) period result }
 {
     let fed = gathered(day, fleet, marks, outputs, period);
     if sum(&fed, day.numbers.nodes).0 != 0 {
@@ -170,9 +170,9 @@ fn period_broken<F: Fleet>(
 
 // The first market rule that is broken, period by period.
 fn periods_broken<F: Fleet>(day: &Day, fleet: &F, marks: &[u8], outputs: &[i32]) -> Option<Refusal>
-    requires ready { Ready (numbers_of day.now.numbers) (meaning_of (periods fleet.now) (size fleet.now) (node fleet.now) (verdict fleet.now) (floor fleet.now)) (record { marks = marks.now; outputs = outputs.now }) }
-    requires kept { RowsKept (numbers_of day.now.numbers) (meaning_of (periods fleet.now) (size fleet.now) (node fleet.now) (verdict fleet.now) (floor fleet.now)) (record { marks = marks.now; outputs = outputs.now }) (size fleet.now) }
-    ensures { PeriodsTold (numbers_of day.now.numbers) (meaning_of (periods fleet.now) (size fleet.now) (node fleet.now) (verdict fleet.now) (floor fleet.now)) (record { marks = marks.entry.now; outputs = outputs.now }) result }
+    requires ready { Ready (numbers_of day.now.numbers) (meaning_of (F.periods fleet.now) (F.size fleet.now) (F.node fleet.now) (F.verdict fleet.now) (F.floor fleet.now)) (record { marks = marks.now; outputs = outputs.now }) }
+    requires kept { RowsKept (numbers_of day.now.numbers) (meaning_of (F.periods fleet.now) (F.size fleet.now) (F.node fleet.now) (F.verdict fleet.now) (F.floor fleet.now)) (record { marks = marks.now; outputs = outputs.now }) (F.size fleet.now) }
+    ensures { PeriodsTold (numbers_of day.now.numbers) (meaning_of (F.periods fleet.now) (F.size fleet.now) (F.node fleet.now) (F.verdict fleet.now) (F.floor fleet.now)) (record { marks = marks.entry.now; outputs = outputs.now }) result }
 {
     for period in 0..day.numbers.periods {
         match period_broken(day, fleet, marks, outputs, period) {
@@ -185,8 +185,8 @@ fn periods_broken<F: Fleet>(day: &Day, fleet: &F, marks: &[u8], outputs: &[i32])
 
 // What a lawful plan costs, or the first rule that is broken: the rows', and then the market's.
 fn judged<F: Fleet>(day: &Day, fleet: &F, plan: &Plan) -> Result<Grains, Refusal>
-    requires { Ready (numbers_of day.now.numbers) (meaning_of (periods fleet.now) (size fleet.now) (node fleet.now) (verdict fleet.now) (floor fleet.now)) (plan_of plan.now) }
-    ensures { Told (numbers_of day.now.numbers) (meaning_of (periods fleet.now) (size fleet.now) (node fleet.now) (verdict fleet.now) (floor fleet.now)) (plan_of plan.now) result }
+    requires { Ready (numbers_of day.now.numbers) (meaning_of (F.periods fleet.now) (F.size fleet.now) (F.node fleet.now) (F.verdict fleet.now) (F.floor fleet.now)) (plan_of plan.now) }
+    ensures { Told (numbers_of day.now.numbers) (meaning_of (F.periods fleet.now) (F.size fleet.now) (F.node fleet.now) (F.verdict fleet.now) (F.floor fleet.now)) (plan_of plan.now) result }
 {
     match rows_cost(day, fleet, plan.marks, plan.outputs) {
         Ok(cost) => match periods_broken(day, fleet, plan.marks, plan.outputs) {
@@ -199,7 +199,7 @@ fn judged<F: Fleet>(day: &Day, fleet: &F, plan: &Plan) -> Result<Grains, Refusal
 
 // The first no before the rules: the fleet does not fit the day, or the plan has not its lengths.
 fn unready<F: Fleet>(day: &Day, fleet: &F, plan: &Plan) -> Option<Refusal>
-    ensures { MatchOption result (Ready (numbers_of day.now.numbers) (meaning_of (periods fleet.now) (size fleet.now) (node fleet.now) (verdict fleet.now) (floor fleet.now)) (plan_of plan.now)) (λ e. Told (numbers_of day.now.numbers) (meaning_of (periods fleet.now) (size fleet.now) (node fleet.now) (verdict fleet.now) (floor fleet.now)) (plan_of plan.now) (Err e)) }
+    ensures { MatchOption result (Ready (numbers_of day.now.numbers) (meaning_of (F.periods fleet.now) (F.size fleet.now) (F.node fleet.now) (F.verdict fleet.now) (F.floor fleet.now)) (plan_of plan.now)) (λ e. Told (numbers_of day.now.numbers) (meaning_of (F.periods fleet.now) (F.size fleet.now) (F.node fleet.now) (F.verdict fleet.now) (F.floor fleet.now)) (plan_of plan.now) (Err e)) }
 {
     match place(day, fleet) {
         Ok(()) => match plan_lengths(day, fleet, plan) {
@@ -212,8 +212,8 @@ fn unready<F: Fleet>(day: &Day, fleet: &F, plan: &Plan) -> Option<Refusal>
 
 // What a plan costs, if it is lawful; else the first no.
 pub fn judge<F: Fleet>(day: &Day, fleet: &F, plan: &Plan) -> Result<Grains, Refusal>
-    ensures answered { Answered (numbers_of day.now.numbers) (meaning_of (periods fleet.now) (size fleet.now) (node fleet.now) (verdict fleet.now) (floor fleet.now)) (record { marks = plan.now.marks.now; outputs = plan.now.outputs.now }) result }
-    ensures told { Told (numbers_of day.now.numbers) (meaning_of (periods fleet.now) (size fleet.now) (node fleet.now) (verdict fleet.now) (floor fleet.now)) (plan_of plan.now) result }
+    ensures answered { Answered (numbers_of day.now.numbers) (meaning_of (F.periods fleet.now) (F.size fleet.now) (F.node fleet.now) (F.verdict fleet.now) (F.floor fleet.now)) (record { marks = plan.now.marks.now; outputs = plan.now.outputs.now }) result }
+    ensures told { Told (numbers_of day.now.numbers) (meaning_of (F.periods fleet.now) (F.size fleet.now) (F.node fleet.now) (F.verdict fleet.now) (F.floor fleet.now)) (plan_of plan.now) result }
 {
     match unready(day, fleet, plan) {
         Some(refusal) => Err(refusal),

@@ -102,9 +102,9 @@ fn periods_floor(day: &Day, nets: &[i64], prices: &PriceSet) -> Grains
 
 // The rows' floors. Each row's part of the tables is handed to the fleet in place.
 fn rows_floor<F: Fleet>(day: &Day, fleet: &F, nets: &[i64], prices: &PriceSet) -> Grains
-    requires ready { Ready (numbers_of day.now.numbers) (meaning_of (periods fleet.now) (size fleet.now) (node fleet.now) (verdict fleet.now) (floor fleet.now)) (prices_of prices.now) }
+    requires ready { Ready (numbers_of day.now.numbers) (meaning_of (F.periods fleet.now) (F.size fleet.now) (F.node fleet.now) (F.verdict fleet.now) (F.floor fleet.now)) (prices_of prices.now) }
     requires netted { Netted (numbers_of day.now.numbers) (prices_of prices.now) nets.now }
-    ensures { RowsFloored (numbers_of day.now.numbers) (meaning_of (periods fleet.now) (size fleet.now) (node fleet.now) (verdict fleet.now) (floor fleet.now)) (prices_of prices.now) (size fleet.now) result.0 }
+    ensures { RowsFloored (numbers_of day.now.numbers) (meaning_of (F.periods fleet.now) (F.size fleet.now) (F.node fleet.now) (F.verdict fleet.now) (F.floor fleet.now)) (prices_of prices.now) (F.size fleet.now) result.0 }
 {
     let periods = day.numbers.periods;
     let mut floor = Grains(0);
@@ -126,8 +126,8 @@ fn rows_floor<F: Fleet>(day: &Day, fleet: &F, nets: &[i64], prices: &PriceSet) -
 
 // The floor of a price set in range.
 fn floor_of<F: Fleet>(day: &Day, fleet: &F, prices: &PriceSet) -> Grains
-    requires { Ready (numbers_of day.now.numbers) (meaning_of (periods fleet.now) (size fleet.now) (node fleet.now) (verdict fleet.now) (floor fleet.now)) (prices_of prices.now) }
-    ensures { Told (numbers_of day.now.numbers) (meaning_of (periods fleet.now) (size fleet.now) (node fleet.now) (verdict fleet.now) (floor fleet.now)) (prices_of prices.now) (Ok result) }
+    requires { Ready (numbers_of day.now.numbers) (meaning_of (F.periods fleet.now) (F.size fleet.now) (F.node fleet.now) (F.verdict fleet.now) (F.floor fleet.now)) (prices_of prices.now) }
+    ensures { Told (numbers_of day.now.numbers) (meaning_of (F.periods fleet.now) (F.size fleet.now) (F.node fleet.now) (F.verdict fleet.now) (F.floor fleet.now)) (prices_of prices.now) (Ok result) }
 {
     let nets = all_nets(day, prices);
     rows_floor(day, fleet, &nets, prices) + periods_floor(day, &nets, prices)
@@ -135,7 +135,7 @@ fn floor_of<F: Fleet>(day: &Day, fleet: &F, prices: &PriceSet) -> Grains
 
 // The first no: the fleet does not fit the day, or a list has not its length, or a price is out of its limits.
 fn unready<F: Fleet>(day: &Day, fleet: &F, prices: &PriceSet) -> Option<Refusal>
-    ensures { MatchOption result (Ready (numbers_of day.now.numbers) (meaning_of (periods fleet.now) (size fleet.now) (node fleet.now) (verdict fleet.now) (floor fleet.now)) (prices_of prices.now)) (λ e. Told (numbers_of day.now.numbers) (meaning_of (periods fleet.now) (size fleet.now) (node fleet.now) (verdict fleet.now) (floor fleet.now)) (prices_of prices.now) (Err e)) }
+    ensures { MatchOption result (Ready (numbers_of day.now.numbers) (meaning_of (F.periods fleet.now) (F.size fleet.now) (F.node fleet.now) (F.verdict fleet.now) (F.floor fleet.now)) (prices_of prices.now)) (λ e. Told (numbers_of day.now.numbers) (meaning_of (F.periods fleet.now) (F.size fleet.now) (F.node fleet.now) (F.verdict fleet.now) (F.floor fleet.now)) (prices_of prices.now) (Err e)) }
 {
     match place(day, fleet) {
         Ok(()) => match price_lengths(day, fleet, prices) {
@@ -148,7 +148,7 @@ fn unready<F: Fleet>(day: &Day, fleet: &F, prices: &PriceSet) -> Option<Refusal>
 
 // The floor that a price set gives, if it is in range; else the first no.
 pub fn bound<F: Fleet>(day: &Day, fleet: &F, prices: &PriceSet) -> Result<Grains, Refusal>
-    ensures { Told (numbers_of day.now.numbers) (meaning_of (periods fleet.now) (size fleet.now) (node fleet.now) (verdict fleet.now) (floor fleet.now)) (prices_of prices.now) result }
+    ensures { Told (numbers_of day.now.numbers) (meaning_of (F.periods fleet.now) (F.size fleet.now) (F.node fleet.now) (F.verdict fleet.now) (F.floor fleet.now)) (prices_of prices.now) result }
 {
     match unready(day, fleet, prices) {
         Some(refusal) => Err(refusal),
