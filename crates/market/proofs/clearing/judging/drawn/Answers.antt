@@ -22,8 +22,8 @@ small c = (made c).loads _ (inside c)
 pub bounds-day-node : goal.bounds-day-node
 bounds-day-node c = inside (goal.at.bounds-day-node c).In-loop-node
 
-pub overflow-sub-fed : goal.overflow-sub-fed
-overflow-sub-fed c = let s = small (goal.at.overflow-sub-fed c).In-loop-node in omega (arith, ints)
+pub overflow_sub-fed : goal.overflow_sub-fed
+overflow_sub-fed c = let s = small (goal.at.overflow_sub-fed c).In-loop-node in omega (arith, ints)
 
 pub loop-node-preserved : goal.loop-node-preserved
 loop-node-preserved c =

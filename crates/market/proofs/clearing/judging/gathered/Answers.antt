@@ -40,14 +40,14 @@ bounds-outputs-row g c =
     let i = (goal.at.bounds-outputs-row g c).In-Ok in
     cell_inside (numbers_of c.args.day.now.numbers) (meaning g i) (record { marks = c.args.marks.now; outputs = c.args.outputs.now }) (g.F.Fleet.facts c.args.fleet.now) (made g i) c.requires.ready c.requires.kept c.args.period c.requires.on c.loop-row.row (row_in g i)
 
-pub overflow-add-fed-in-loop-row : goal.overflow-add-fed-in-loop-row
-overflow-add-fed-in-loop-row g c =
-    let a = fed_now g (goal.at.overflow-add-fed-in-loop-row g c).In-Ok in
-    let b = output_now g (goal.at.overflow-add-fed-in-loop-row g c).In-Ok in
+pub overflow_add-fed-in-loop-row : goal.overflow_add-fed-in-loop-row
+overflow_add-fed-in-loop-row g c =
+    let a = fed_now g (goal.at.overflow_add-fed-in-loop-row g c).In-Ok in
+    let b = output_now g (goal.at.overflow_add-fed-in-loop-row g c).In-Ok in
     omega (arith, ints)
 
-pub offset-bounds-fed-node-in-loop-row : goal.offset-bounds-fed-node-in-loop-row
-offset-bounds-fed-node-in-loop-row g c = omega (arith, node_small g (goal.at.offset-bounds-fed-node-in-loop-row g c).In-Ok)
+pub offset_bounds-fed-node-in-loop-row : goal.offset_bounds-fed-node-in-loop-row
+offset_bounds-fed-node-in-loop-row g c = omega (arith, node_small g (goal.at.offset_bounds-fed-node-in-loop-row g c).In-Ok)
 
 pub bounds-fed-node-in-loop-row : goal.bounds-fed-node-in-loop-row
 bounds-fed-node-in-loop-row g c = omega (arith, node_small g (goal.at.bounds-fed-node-in-loop-row g c).In-Ok)

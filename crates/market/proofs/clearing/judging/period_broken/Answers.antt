@@ -40,9 +40,9 @@ returns-then-sum-ne0 g c cleared =
     balance c.args.period c.requires.on c.requires.kept cleared
     (unbalanced (numbers g i) (meaning g i) (plan g i) c.args.period c.gathered-fed.result c.requires.ready.placed.nodes c.gathered-fed.ensures.fed c.sum.result.0 c.sum.ensures (λ z. c.if-sum-ne0.true (ap (of_z w32) z)))
 
-pub line-broken-requires : goal.line-broken-requires
-line-broken-requires g c =
-    let i = (goal.at.line-broken-requires g c).After-gathered-fed in
+pub line_broken-requires : goal.line_broken-requires
+line_broken-requires g c =
+    let i = (goal.at.line_broken-requires g c).After-gathered-fed in
     record { few = (room g i, omega (arith, (made g i).shape.periods.1, c.requires.on)); small = small g i }
 
 pub returns : goal.returns
@@ -51,4 +51,4 @@ returns g c =
     let bound = subst (Within (c.args.day.now.numbers.nodes * 680000)) (sym c.sum.ensures) (total_within c.args.day.now.numbers.nodes 680000 (at c.gathered-fed.result) (small g i)) in
     let none = sum_zero c.args.day.now.numbers.nodes c.sum.result.0 (made g i).shape.nodes.1 bound c.if-sum-ne0.false in
     let even = balanced (numbers g i) (meaning g i) (plan g i) c.args.period c.gathered-fed.result c.requires.ready.placed.nodes c.gathered-fed.ensures.fed c.sum.result.0 c.sum.ensures none in
-    period_told (numbers g i) (meaning g i) (plan g i) c.args.period c.gathered-fed.result c.requires.ready.placed.nodes c.gathered-fed.ensures.fed c.requires.on c.requires.kept even c.line-broken.result c.line-broken.ensures
+    period_told (numbers g i) (meaning g i) (plan g i) c.args.period c.gathered-fed.result c.requires.ready.placed.nodes c.gathered-fed.ensures.fed c.requires.on c.requires.kept even c.line_broken.result c.line_broken.ensures

@@ -22,8 +22,8 @@ period_in c = mod_below c.loop-cell.cell c.args.day.now.numbers.periods (made c)
 cell_in : (c : In-loop-cell) → c.loop-cell.cell < 1536
 cell_in c = omega (arith, c.loop-cell-test.true, mul-le c.args.day.now.numbers.nodes c.args.day.now.numbers.periods 16 96 (made c).shape.nodes.1 (made c).shape.periods.1)
 
-pub net-price-requires : goal.net-price-requires
-net-price-requires c = let i = (goal.at.net-price-requires c).In-loop-cell in record { on = (node_in i, period_in i); priced = c.requires }
+pub net_price-requires : goal.net_price-requires
+net_price-requires c = let i = (goal.at.net_price-requires c).In-loop-cell in record { on = (node_in i, period_in i); priced = c.requires }
 
 pub bounds-nets-cell : goal.bounds-nets-cell
 bounds-nets-cell c = cell_in (goal.at.bounds-nets-cell c).In-loop-cell
@@ -34,7 +34,7 @@ loop-cell-preserved c =
     let d = numbers_of c.args.day.now.numbers in
     let s = prices_of c.args.prices.now in
     let small = net_before_small d s (made i) c.requires _ _ c.args.day.now.numbers.lines (node_in i) (period_in i) (omega arith) in
-    let same : to_z w64 (of_z w64 c.net-price.result.0) ≡ net_price d s (c.loop-cell.cell / c.args.day.now.numbers.periods) (c.loop-cell.cell % c.args.day.now.numbers.periods) = omega (arith, ints, c.net-price.ensures) in (
+    let same : to_z w64 (of_z w64 c.net_price.result.0) ≡ net_price d s (c.loop-cell.cell / c.args.day.now.numbers.periods) (c.loop-cell.cell % c.args.day.now.numbers.periods) = omega (arith, ints, c.net_price.ensures) in (
       length-set _ _ _ ∙ c.loop-cell.invariant.0,
       set_more (λ k z. z ≡ net_price d s (k / c.args.day.now.numbers.periods) (k % c.args.day.now.numbers.periods)) _ _ _ (omega (arith, c.loop-cell.invariant.0, cell_in i)) c.loop-cell.invariant.1 same,
     )

@@ -13,32 +13,32 @@ pub returns-in-Err : goal.returns-in-Err
 returns-in-Err c =
     record {
       answer = cut_answer _ _ _ _ c.in-Err.ensures.answer;
-      rows = c.next-row.ensures.rows;
-      last = c.next-row.ensures.kept.last;
+      rows = c.next_row.ensures.rows;
+      last = c.next_row.ensures.kept.last;
     }
 
 pub returns-in-Err-numbers : goal.returns-in-Err-numbers
 returns-in-Err-numbers c =
     record {
       answer = number_answer _ _ _ c.in-Some.row _ (handed (goal.at.returns-in-Err-numbers c).In-Some) c.in-Err-numbers.ensures;
-      rows = c.next-row.ensures.rows;
-      last = c.next-row.ensures.kept.last;
+      rows = c.next_row.ensures.rows;
+      last = c.next_row.ensures.kept.last;
     }
 
-pub returns-then-may-follow : goal.returns-then-may-follow
-returns-then-may-follow c =
-    let placed = c.if-may-follow.ensures ∙ ap (λ l. follows l (place_of c.in-Ok-numbers.entry)) c.next-row.ensures.kept.last in
+pub returns-then-may_follow : goal.returns-then-may_follow
+returns-then-may_follow c =
+    let placed = c.if-may_follow.ensures ∙ ap (λ l. follows l (place_of c.in-Ok-numbers.entry)) c.next_row.ensures.kept.last in
     record {
-      answer = place_answer _ _ _ c.in-Some.row _ true (handed (goal.at.returns-then-may-follow c).In-Some) c.in-Ok-numbers.ensures placed;
-      rows = c.next-row.ensures.rows;
-      last = c.next-row.ensures.kept.last;
+      answer = place_answer _ _ _ c.in-Some.row _ true (handed (goal.at.returns-then-may_follow c).In-Some) c.in-Ok-numbers.ensures placed;
+      rows = c.next_row.ensures.rows;
+      last = c.next_row.ensures.kept.last;
     }
 
-pub returns-else-may-follow : goal.returns-else-may-follow
-returns-else-may-follow c =
-    let placed = c.if-may-follow.ensures ∙ ap (λ l. follows l (place_of c.in-Ok-numbers.entry)) c.next-row.ensures.kept.last in
+pub returns-else-may_follow : goal.returns-else-may_follow
+returns-else-may_follow c =
+    let placed = c.if-may_follow.ensures ∙ ap (λ l. follows l (place_of c.in-Ok-numbers.entry)) c.next_row.ensures.kept.last in
     record {
-      answer = place_answer _ _ _ c.in-Some.row _ false (handed (goal.at.returns-else-may-follow c).In-Some) c.in-Ok-numbers.ensures placed;
-      rows = c.next-row.ensures.rows;
-      last = c.next-row.ensures.kept.last;
+      answer = place_answer _ _ _ c.in-Some.row _ false (handed (goal.at.returns-else-may_follow c).In-Some) c.in-Ok-numbers.ensures placed;
+      rows = c.next_row.ensures.rows;
+      last = c.next_row.ensures.kept.last;
     }

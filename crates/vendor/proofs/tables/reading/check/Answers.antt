@@ -25,5 +25,5 @@ add-requires c =
       ramps = omega (arith, inv.ramps);
     }
 
-pub overflow-add-row : goal.overflow-add-row
-overflow-add-row c = let few = row_few (goal.at.overflow-add-row c).In-Some in omega arith
+pub overflow_add-row : goal.overflow_add-row
+overflow_add-row c = let few = row_few (goal.at.overflow_add-row c).In-Some in omega arith

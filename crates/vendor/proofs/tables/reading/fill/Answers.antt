@@ -16,9 +16,9 @@ pub loop-next-init : goal.loop-next-init
 loop-next-init c =
     (writing_none _ _ _ _ _ _ c.requires.0 c.requires.1 c.new-reader.ensures.last c.new-reader.ensures.rows c.clear.ensures.held, same_places_none _)
 
-pub returns-in-default-next : goal.returns-in-default-next
-returns-in-default-next c =
-    let out = read_out _ _ _ (sym (ap Ok c.in-default-next.is) ∙ told (goal.at.returns-in-default-next c).In-Ok) in
+pub returns-in_default-next : goal.returns-in_default-next
+returns-in_default-next c =
+    let out = read_out _ _ _ (sym (ap Ok c.in_default-next.is) ∙ told (goal.at.returns-in_default-next c).In-Ok) in
     record { held = writing_all _ _ _ _ _ c.loop-next.invariant.0 out; places = same_places_on _ _ _ c.clear.ensures.places c.loop-next.invariant.1 }
 
 pub write-requires : goal.write-requires
@@ -28,4 +28,4 @@ pub loop-next-preserved : goal.loop-next-preserved
 loop-next-preserved c =
     let r = this (goal.at.loop-next-preserved c).In-Some in
     let moved = c.in-Ok.ensures.last ∙ ap (λ o. last_after c.loop-next.reader.last (Ok o)) c.in-Some.is in
-    (writing_more _ _ _ _ _ _ _ _ c.in-Some.entry c.loop-next.invariant.0 r moved c.next-entry.ensures.rows c.write.ensures.held, same_places_on _ _ _ c.loop-next.invariant.1 c.write.ensures.places)
+    (writing_more _ _ _ _ _ _ _ _ c.in-Some.entry c.loop-next.invariant.0 r moved c.next_entry.ensures.rows c.write.ensures.held, same_places_on _ _ _ c.loop-next.invariant.1 c.write.ensures.places)

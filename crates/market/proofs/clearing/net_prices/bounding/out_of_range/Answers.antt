@@ -13,14 +13,14 @@ pub returns-in-Some : goal.returns-in-Some
 returns-in-Some c = system c.in-Some.period c.in-Some.ensures
 
 pub returns-in-Some-over : goal.returns-in-Some-over
-returns-in-Some-over c = upper c.in-Some-over.refusal c.in-default.ensures c.in-Some-over.ensures
+returns-in-Some-over c = upper c.in-Some-over.refusal c.in_default.ensures c.in-Some-over.ensures
 
 pub returns-in-Some-over-2 : goal.returns-in-Some-over-2
-returns-in-Some-over-2 c = lower c.in-Some-over-2.refusal c.in-default.ensures c.in-default-over.ensures c.in-Some-over-2.ensures
+returns-in-Some-over-2 c = lower c.in-Some-over-2.refusal c.in_default.ensures c.in_default-over.ensures c.in-Some-over-2.ensures
 
 pub returns-in-Some-over-3 : goal.returns-in-Some-over-3
 returns-in-Some-over-3 c =
-    rise c.in-Some-over-3.refusal c.in-default.ensures c.in-default-over.ensures c.in-default-over-2.ensures c.in-Some-over-3.ensures
+    rise c.in-Some-over-3.refusal c.in_default.ensures c.in_default-over.ensures c.in_default-over-2.ensures c.in-Some-over-3.ensures
 
 pub returns : goal.returns
-returns c = last _ _ c.in-default.ensures c.in-default-over.ensures c.in-default-over-2.ensures c.in-default-over-3.ensures _ c.over-4.ensures
+returns c = last _ _ c.in_default.ensures c.in_default-over.ensures c.in_default-over-2.ensures c.in_default-over-3.ensures _ c.over-4.ensures

@@ -25,14 +25,14 @@ sub-requires c =
     let i = (goal.at.sub-requires c).In-loop-period in
     let a = paid_small (d i) (s i) (made i) c.requires.priced c.loop-period.period c.loop-period-test.true c.args.day.now.numbers.nodes (omega arith) in
     let b = come_small (d i) (s i) (made i) c.requires.priced c.loop-period.period c.loop-period-test.true c.args.day.now.numbers.lines (omega arith) in
-    omega (arith, ints, c.loads-pay.ensures, c.limits-come.ensures, (made i).shape.nodes.1, (made i).shape.lines)
+    omega (arith, ints, c.loads_pay.ensures, c.limits_come.ensures, (made i).shape.nodes.1, (made i).shape.lines)
 
 -- one period more
 more : (c : After-sub) → let i = (goal.at.add-all-requires c).In-loop-period in PeriodsFloored (d i) (s i) (c.loop-period.period + 1) (c.loop-period.all.0 +ℤ c.sub.result.0)
 more c =
     let i = (goal.at.add-all-requires c).In-loop-period in
     periods_more (d i) (s i) (made i) c.requires.priced c.loop-period.period c.loop-period.all.0 c.sub.result.0 c.loop-period-test.true
-    (c.sub.ensures ∙ λ j. c.loads-pay.ensures j -ℤ c.limits-come.ensures j) c.loop-period.invariant
+    (c.sub.ensures ∙ λ j. c.loads_pay.ensures j -ℤ c.limits_come.ensures j) c.loop-period.invariant
 
 pub add-all-requires : goal.add-all-requires
 add-all-requires c =

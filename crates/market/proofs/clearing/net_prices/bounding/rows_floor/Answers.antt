@@ -46,23 +46,23 @@ row_ends g c = part_ends c.loop-row.row c.args.day.now.numbers.periods _ (row_in
 pub loop-row-init : goal.loop-row-init
 loop-row-init g c = (rows_none _ _ _, c.size-row-end.ensures)
 
-pub overflow-mul-here : goal.overflow-mul-here
-overflow-mul-here g c = let h = here_within g c in omega arith
+pub overflow_mul-here : goal.overflow_mul-here
+overflow_mul-here g c = let h = here_within g c in omega arith
 
-pub slice-bounds-rise-end : goal.slice-bounds-rise-end
-slice-bounds-rise-end g c = let e = row_ends g (goal.at.slice-bounds-rise-end g c).In-Ok in omega (arith, c.requires.ready.sized.rise)
+pub slice_bounds-rise-end : goal.slice_bounds-rise-end
+slice_bounds-rise-end g c = let e = row_ends g (goal.at.slice_bounds-rise-end g c).In-Ok in omega (arith, c.requires.ready.sized.rise)
 
-pub slice-bounds-fall-end : goal.slice-bounds-fall-end
-slice-bounds-fall-end g c = let e = row_ends g (goal.at.slice-bounds-fall-end g c).In-Ok in omega (arith, c.requires.ready.sized.fall)
+pub slice_bounds-fall-end : goal.slice_bounds-fall-end
+slice_bounds-fall-end g c = let e = row_ends g (goal.at.slice_bounds-fall-end g c).In-Ok in omega (arith, c.requires.ready.sized.fall)
 
-pub overflow-add-here : goal.overflow-add-here
-overflow-add-here g c = let h = here_within g (goal.at.overflow-add-here g c).In-Ok in omega arith
+pub overflow_add-here : goal.overflow_add-here
+overflow_add-here g c = let h = here_within g (goal.at.overflow_add-here g c).In-Ok in omega arith
 
-pub offset-bounds-nets-here : goal.offset-bounds-nets-here
-offset-bounds-nets-here g c = let h = here_within g (goal.at.offset-bounds-nets-here g c).In-Ok in omega arith
+pub offset_bounds-nets-here : goal.offset_bounds-nets-here
+offset_bounds-nets-here g c = let h = here_within g (goal.at.offset_bounds-nets-here g c).In-Ok in omega arith
 
-pub slice-bounds-floor-end : goal.slice-bounds-floor-end
-slice-bounds-floor-end g c = let h = here_within g (goal.at.slice-bounds-floor-end g c).In-Ok in omega (arith, c.requires.netted.long)
+pub slice_bounds-floor-end : goal.slice_bounds-floor-end
+slice_bounds-floor-end g c = let h = here_within g (goal.at.slice_bounds-floor-end g c).In-Ok in omega (arith, c.requires.netted.long)
 
 -- one row more
 more : (g : given.Over) (c : In-Ok-floor g) → let i = (goal.at.add-floor-requires g c).In-Ok in RowsFloored (d g i) (m g i) (s g i) (c.loop-row.row + 1) (c.loop-row.floor.0 +ℤ c.in-Ok-floor.more.0)

@@ -8,11 +8,11 @@ use Rattle.market.proofs.clearing.net_prices.bounding.unready.Goals as goal
 pub returns-in-Err : goal.returns-in-Err
 returns-in-Err g c = told _ _ _ (g.F.Fleet.facts c.args.fleet.now) (made_so _ c.args.day.now.made) _ (rejected _ _ _ _ (unplaced c.in-Err.refusal c.in-Err.ensures))
 
-pub returns-in-Err-price-lengths : goal.returns-in-Err-price-lengths
-returns-in-Err-price-lengths g c =
-    let e = c.in-Err-price-lengths.ensures in
+pub returns-in-Err-price_lengths : goal.returns-in-Err-price_lengths
+returns-in-Err-price_lengths g c =
+    let e = c.in-Err-price_lengths.ensures in
     told _ _ _ (g.F.Fleet.facts c.args.fleet.now) (made_so _ c.args.day.now.made) _ (rejected _ _ _ _ (eight (Refused _ _ _) (lengths c.in-Ok.ensures e.1) e.0))
 
-pub returns-in-Ok-price-lengths : goal.returns-in-Ok-price-lengths
-returns-in-Ok-price-lengths g c =
-    ranged _ _ _ (g.F.Fleet.facts c.args.fleet.now) (made_so _ c.args.day.now.made) c.in-Ok.ensures c.in-Ok-price-lengths.ensures _ c.out-of-range.ensures
+pub returns-in-Ok-price_lengths : goal.returns-in-Ok-price_lengths
+returns-in-Ok-price_lengths g c =
+    ranged _ _ _ (g.F.Fleet.facts c.args.fleet.now) (made_so _ c.args.day.now.made) c.in-Ok.ensures c.in-Ok-price_lengths.ensures _ c.out_of_range.ensures
