@@ -30,15 +30,15 @@ node_small : (g : given.Over) (c : In-Ok g) → c.in-Ok.node < 16
 node_small g c = omega (arith, node_in g c, (made g c).shape.nodes.1)
 
 fed_now : (g : given.Over) (c : In-Ok g) → Within 680000 (at c.loop-row.fed c.in-Ok.node)
-fed_now g c = fed_small (numbers_of c.args.day.now.numbers) (meaning g c) (record { marks = c.args.marks.now; outputs = c.args.outputs.now }) (g.F.Fleet.facts c.args.fleet.now) (made g c) c.requires.ready c.requires.kept c.args.period c.requires.on c.loop-row.row c.loop-row.fed (omega (arith, row_in g c)) c.loop-row.invariant.1 c.in-Ok.node (node_in g c)
+fed_now g c = fed_small (numbers_of c.args.day.now.numbers) (meaning g c) (record { marks = c.args.marks.now; outputs = c.args.outputs.now }) (g.met.F.Fleet.facts c.args.fleet.now) (made g c) c.requires.ready c.requires.kept c.args.period c.requires.on c.loop-row.row c.loop-row.fed (omega (arith, row_in g c)) c.loop-row.invariant.1 c.in-Ok.node (node_in g c)
 
 output_now : (g : given.Over) (c : In-Ok g) → Within 20000 (at c.args.outputs.now (c.loop-row.row * c.args.day.now.numbers.periods + c.args.period))
-output_now g c = output_small (numbers_of c.args.day.now.numbers) (meaning g c) (record { marks = c.args.marks.now; outputs = c.args.outputs.now }) (g.F.Fleet.facts c.args.fleet.now) (made g c) c.requires.ready c.requires.kept c.args.period c.requires.on c.loop-row.row (row_in g c)
+output_now g c = output_small (numbers_of c.args.day.now.numbers) (meaning g c) (record { marks = c.args.marks.now; outputs = c.args.outputs.now }) (g.met.F.Fleet.facts c.args.fleet.now) (made g c) c.requires.ready c.requires.kept c.args.period c.requires.on c.loop-row.row (row_in g c)
 
 pub bounds-outputs-row : goal.bounds-outputs-row
 bounds-outputs-row g c =
     let i = (goal.at.bounds-outputs-row g c).In-Ok in
-    cell_inside (numbers_of c.args.day.now.numbers) (meaning g i) (record { marks = c.args.marks.now; outputs = c.args.outputs.now }) (g.F.Fleet.facts c.args.fleet.now) (made g i) c.requires.ready c.requires.kept c.args.period c.requires.on c.loop-row.row (row_in g i)
+    cell_inside (numbers_of c.args.day.now.numbers) (meaning g i) (record { marks = c.args.marks.now; outputs = c.args.outputs.now }) (g.met.F.Fleet.facts c.args.fleet.now) (made g i) c.requires.ready c.requires.kept c.args.period c.requires.on c.loop-row.row (row_in g i)
 
 pub overflow_add-fed-in-loop-row : goal.overflow_add-fed-in-loop-row
 overflow_add-fed-in-loop-row g c =

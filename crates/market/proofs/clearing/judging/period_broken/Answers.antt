@@ -27,7 +27,7 @@ room : (g : given.Over) (c : After-gathered-fed g) → c.args.day.now.numbers.no
 room g c = omega (arith, (made g c).shape.nodes.1, c.gathered-fed.ensures.long)
 
 small : (g : given.Over) (c : After-gathered-fed g) (k : ℕ) → k < c.args.day.now.numbers.nodes → Within 680000 (at c.gathered-fed.result k)
-small g c = fed_small (numbers g c) (meaning g c) (plan g c) (g.F.Fleet.facts c.args.fleet.now) (made g c) c.requires.ready c.requires.kept c.args.period c.requires.on (g.F.Fleet.size c.args.fleet.now) c.gathered-fed.result (omega arith) c.gathered-fed.ensures.fed
+small g c = fed_small (numbers g c) (meaning g c) (plan g c) (g.met.F.Fleet.facts c.args.fleet.now) (made g c) c.requires.ready c.requires.kept c.args.period c.requires.on (g.F.Fleet.size c.args.fleet.now) c.gathered-fed.result (omega arith) c.gathered-fed.ensures.fed
 
 pub sum-requires : goal.sum-requires
 sum-requires g c =

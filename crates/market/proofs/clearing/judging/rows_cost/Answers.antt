@@ -1,4 +1,4 @@
-use Rattle.std.proofs.Common.{◌+◌, ◌<◌, ◌+ℤ◌, sym, subst, arith}
+use Rattle.std.proofs.Common.{◌≡◌, ◌+◌, ◌<◌, ◌+ℤ◌, sym, subst, arith}
 use Rattle.std.proofs.lemmas.Int.{ints}
 use Rattle.market.specs.Days.{numbers_of}
 use Rattle.market.specs.Fleet.{Meaning, meaning_of}
@@ -23,22 +23,28 @@ meaning g c = meaning_of (g.F.Fleet.periods c.args.fleet.now) (g.F.Fleet.size c.
 -- one row more
 more : (g : given.Over) (c : In-Ok g) → RowsSoFar (numbers_of c.args.day.now.numbers) (meaning g (goal.at.add-cost-requires g c).In-loop-row) (record { marks = c.args.marks.now; outputs = c.args.outputs.now }) (c.loop-row.row + 1) (c.loop-row.cost.0 +ℤ c.in-Ok.more.0)
 more g c =
-    let facts = g.F.Fleet.facts c.args.fleet.now in
+    let facts = g.met.F.Fleet.facts c.args.fleet.now in
     let h = within g (goal.at.add-cost-requires g c).In-loop-row in
     rows_more _ _ _ facts c.requires _ _ _ h c.loop-row.invariant.0 (told _ _ _ facts c.requires _ _ h c.in-Ok.ensures)
 
 pub add-cost-requires : goal.add-cost-requires
 add-cost-requires g c = let so = more g c in omega (arith, ints, so.small.0, so.small.1, within g (goal.at.add-cost-requires g c).In-loop-row, c.requires.placed.some.1)
 
-pub returns-clause-judged-in-Err : goal.returns-clause-judged-in-Err
-returns-clause-judged-in-Err g c =
-    let facts = g.F.Fleet.facts c.args.fleet.now in
+pub returns-in-Err : goal.returns-in-Err
+returns-in-Err g c =
+    let facts = g.met.F.Fleet.facts c.args.fleet.now in
     let h = within g (goal.at.returns-in-Err g c).In-loop-row in
-    rows_broken _ _ _ facts c.requires _ _ _ h c.loop-row.invariant.0 (told _ _ _ facts c.requires _ _ h c.in-Err.ensures)
+    record { judged = rows_broken _ _ _ facts c.requires _ _ _ h c.loop-row.invariant.0 (told _ _ _ facts c.requires _ _ h c.in-Err.ensures); small = tt }
 
 pub loop-row-preserved : goal.loop-row-preserved
 loop-row-preserved g c =
     (subst (RowsSoFar _ _ _ (c.loop-row.row + 1)) (sym c.add-cost.ensures) (more g (goal.at.loop-row-preserved g c).In-Ok), c.loop-row.invariant.1)
 
 pub returns : goal.returns
-returns g c = rows_done _ _ _ (g.F.Fleet.facts c.args.fleet.now) c.requires c.loop-row.row c.loop-row.cost (omega (arith, c.loop-row.invariant.1)) c.loop-row.invariant.0
+returns g c =
+    let facts = g.met.F.Fleet.facts c.args.fleet.now in
+    let all : c.loop-row.row ≡ g.F.Fleet.size c.args.fleet.now = omega (arith, c.loop-row.invariant.1) in
+    record {
+      judged = rows_done _ _ _ facts c.requires c.loop-row.row c.loop-row.cost all c.loop-row.invariant.0;
+      small = rows_small _ _ _ facts c.requires c.loop-row.row c.loop-row.cost all c.loop-row.invariant.0;
+    }

@@ -68,7 +68,7 @@ slice_bounds-floor-end g c = let h = here_within g (goal.at.slice_bounds-floor-e
 more : (g : given.Over) (c : In-Ok-floor g) → let i = (goal.at.add-floor-requires g c).In-Ok in RowsFloored (d g i) (m g i) (s g i) (c.loop-row.row + 1) (c.loop-row.floor.0 +ℤ c.in-Ok-floor.more.0)
 more g c =
     let i = (goal.at.add-floor-requires g c).In-Ok in
-    let facts = g.F.Fleet.facts c.args.fleet.now in
+    let facts = g.met.F.Fleet.facts c.args.fleet.now in
     rows_more (d g i) (m g i) (s g i) facts (made g i) c.requires.ready c.loop-row.row c.loop-row.floor.0 c.in-Ok-floor.more (row_in g i)
     (floor_told (d g i) (m g i) (s g i) facts (made g i) c.requires.ready c.args.nets.now c.requires.netted c.loop-row.row c.in-Ok.node (Ok c.in-Ok-floor.more) (row_in g i) (is_node g i) c.in-Ok-floor.ensures)
     c.loop-row.invariant.0
@@ -81,7 +81,7 @@ add-floor-requires g c =
 pub returns-in-Err : goal.returns-in-Err
 returns-in-Err g c =
     let i = (goal.at.returns-in-Err g c).In-Ok in
-    absurd (not_ok _ _ (floor_told (d g i) (m g i) (s g i) (g.F.Fleet.facts c.args.fleet.now) (made g i) c.requires.ready c.args.nets.now c.requires.netted c.loop-row.row c.in-Ok.node _ (row_in g i) (is_node g i) c.in-Err.ensures))
+    absurd (not_ok _ _ (floor_told (d g i) (m g i) (s g i) (g.met.F.Fleet.facts c.args.fleet.now) (made g i) c.requires.ready c.args.nets.now c.requires.netted c.loop-row.row c.in-Ok.node _ (row_in g i) (is_node g i) c.in-Err.ensures))
 
 pub loop-row-preserved : goal.loop-row-preserved
 loop-row-preserved g c =
