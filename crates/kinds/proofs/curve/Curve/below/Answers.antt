@@ -40,8 +40,8 @@ told c =
     let fits : SFits w32 c.args.output.0 = search rules in
     part _ _ _ _ (m.ranges.ends c.args.segment (omega arith)) (m.ranges.ends (c.args.segment + 1) (omega arith)) (omega (arith, ints)) fits c.clamp.ensures.value
 
-pub overflow-sub-result : goal.overflow-sub-result
-overflow-sub-result c = (told c).0
+pub overflow_sub-result : goal.overflow_sub-result
+overflow_sub-result c = (told c).0
 
 pub returns : goal.returns
 unfolding below

@@ -12,13 +12,13 @@ made c = made_so c.args.self.now.numbers c.args.self.now.made
 
 pub mul-cost-requires : goal.mul-cost-requires
 mul-cost-requires c =
-    let e : c.net-price.result.0 *ℤ c.lowest.result.0 ≡ (pos 1000 *ℤ price c.args.self.now.numbers 0) *ℤ lowest c.args.self.now.numbers = λ j. c.net-price.ensures j *ℤ c.lowest.ensures j in
+    let e : c.net_price.result.0 *ℤ c.lowest.result.0 ≡ (pos 1000 *ℤ price c.args.self.now.numbers 0) *ℤ lowest c.args.self.now.numbers = λ j. c.net_price.ensures j *ℤ c.lowest.ensures j in
     let w = first_within c.args.self.now.numbers (made c) in
     omega (arith, ints)
 
 -- the product is what the segment costs
-segment_is : (c : After-below) → c.net-price-in-loop-segment.result.0 *ℤ c.below.result.0 ≡ cost_of c.args.self.now.numbers (made (goal.at.mul-requires c).After-lowest) c.loop-segment.segment c.args.output.0
-segment_is c = λ j. c.net-price-in-loop-segment.ensures j *ℤ c.below.ensures j
+segment_is : (c : After-below) → c.net_price-in-loop-segment.result.0 *ℤ c.below.result.0 ≡ cost_of c.args.self.now.numbers (made (goal.at.mul-requires c).After-lowest) c.loop-segment.segment c.args.output.0
+segment_is c = λ j. c.net_price-in-loop-segment.ensures j *ℤ c.below.ensures j
 
 pub mul-requires : goal.mul-requires
 mul-requires c =

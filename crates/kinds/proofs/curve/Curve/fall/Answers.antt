@@ -31,12 +31,12 @@ pub sub-slope-requires : goal.sub-slope-requires
 sub-slope-requires c =
     let m = made_so c.args.self.now.numbers c.args.self.now.made in
     let w = net_within c.args.self.now.numbers m c.args.segment c.requires.on in
-    omega (arith, ints, c.net-price.ensures, c.requires.small.0, c.requires.small.1)
+    omega (arith, ints, c.net_price.ensures, c.requires.small.0, c.requires.small.1)
 
 -- the product is the slope on the part from low to high
 product_is : (c : After-sub) → c.sub-slope.result.0 *ℤ c.sub.result.0
     ≡ (pos 1000 *ℤ price c.args.self.now.numbers c.args.segment -ℤ c.args.value.0) *ℤ (below c.args.self.now.numbers c.args.segment c.args.high.0 -ℤ below c.args.self.now.numbers c.args.segment c.args.low.0)
-product_is c = λ j. (c.sub-slope.ensures ∙ λ k. c.net-price.ensures k -ℤ c.args.value.0) j *ℤ (c.sub.ensures ∙ λ k. c.below.ensures k -ℤ c.below-2.ensures k) j
+product_is c = λ j. (c.sub-slope.ensures ∙ λ k. c.net_price.ensures k -ℤ c.args.value.0) j *ℤ (c.sub.ensures ∙ λ k. c.below.ensures k -ℤ c.below-2.ensures k) j
 
 small : (c : After-sub) → Within 404000000000000 ((pos 1000 *ℤ price c.args.self.now.numbers c.args.segment -ℤ c.args.value.0) *ℤ (below c.args.self.now.numbers c.args.segment c.args.high.0 -ℤ below c.args.self.now.numbers c.args.segment c.args.low.0))
 small c = fall_whole_within c.args.self.now.numbers (made (goal.at.mul-taken-requires c).After-below-2) c.args.value.0 c.requires.small c.args.low.0 c.args.high.0 c.args.segment c.requires.on

@@ -6,15 +6,15 @@ use Rattle.kinds.specs.Leasts.{Least}
 use Rattle.kinds.proofs.Falls.{worth_within, net_cost_within, fall_within, lowered, lowered_within, lowered_start, lowered_more, lowered_end, lowered_least, lowered_is}
 use Rattle.kinds.proofs.CurveTests.{Asked, made_so, asked_so}
 use Rattle.kinds.proofs.curve.Curve.lowered.Goals as goal
-use Rattle.kinds.proofs.curve.Curve.lowered.Goals.{After-running-cost, After-mul, After-loop-segment}
+use Rattle.kinds.proofs.curve.Curve.lowered.Goals.{After-running_cost, After-mul, After-loop-segment}
 
-made : (c : After-running-cost) → Made c.args.self.now.numbers
+made : (c : After-running_cost) → Made c.args.self.now.numbers
 made c = made_so c.args.self.now.numbers c.args.self.now.made
 
-asked : (c : After-running-cost) → Asked c.args.self.now.numbers c.args.value.0 c.args.low.0 c.args.high.0
+asked : (c : After-running_cost) → Asked c.args.self.now.numbers c.args.value.0 c.args.low.0 c.args.high.0
 asked c = asked_so c.args.self.now.numbers c.args.value.0 c.args.low.0 c.args.high.0 c.requires
 
-low_under : (c : After-running-cost) → c.args.low.0 ≤ℤ highest c.args.self.now.numbers
+low_under : (c : After-running_cost) → c.args.low.0 ≤ℤ highest c.args.self.now.numbers
 low_under c = let a = asked c in omega (arith, ints)
 
 pub mul-requires : goal.mul-requires
@@ -23,12 +23,12 @@ mul-requires c =
     omega (arith, ints)
 
 -- where the loop begins
-start_is : (c : After-mul) → c.running-cost.result.0 -ℤ c.mul.result.0 ≡ net_cost c.args.self.now.numbers c.args.value.0 c.args.low.0
-start_is c = λ j. c.running-cost.ensures j -ℤ c.mul.ensures j
+start_is : (c : After-mul) → c.running_cost.result.0 -ℤ c.mul.result.0 ≡ net_cost c.args.self.now.numbers c.args.value.0 c.args.low.0
+start_is c = λ j. c.running_cost.ensures j -ℤ c.mul.ensures j
 
 pub sub-least-requires : goal.sub-least-requires
 sub-least-requires c =
-    let i = (goal.at.sub-least-requires c).After-running-cost in
+    let i = (goal.at.sub-least-requires c).After-running_cost in
     let e = start_is c in
     let w = net_cost_within c.args.self.now.numbers (made i) c.args.value.0 (asked i).value c.args.low.0 (asked i).on (low_under i) in
     omega (arith, ints)
@@ -38,7 +38,7 @@ loop-segment-init c = lowered_start c.args.self.now.numbers c.args.value.0 c.arg
 
 pub add-least-requires : goal.add-least-requires
 add-least-requires c =
-    let i = (goal.at.add-least-requires c).After-running-cost in
+    let i = (goal.at.add-least-requires c).After-running_cost in
     let so_far : Within 4444000000000000 c.loop-segment.least.0 = subst (Within 4444000000000000) (sym c.loop-segment.invariant) (lowered_within c.args.self.now.numbers (made i) c.args.value.0 (asked i).value c.args.low.0 c.args.high.0 c.loop-segment.segment c.loop-segment.auto.segment-end (asked i).on (low_under i)) in
     let w = fall_within c.args.self.now.numbers (made i) c.args.value.0 (asked i).value c.args.low.0 c.args.high.0 c.loop-segment.segment c.loop-segment-test.true in
     omega (arith, ints, c.fall.ensures)
@@ -53,7 +53,7 @@ all c = lowered_end c.args.self.now.numbers c.args.value.0 c.args.low.0 c.args.h
 
 pub returns : goal.returns
 returns c =
-    let i = (goal.at.returns c).After-running-cost in
+    let i = (goal.at.returns c).After-running_cost in
     let a = asked i in
     record {
       told = λ j. record { 0 = (all c ∙ lowered_is c.args.self.now.numbers (made i) c.args.value.0 c.args.low.0 c.args.high.0 a.on a.range a.under) j };

@@ -10,6 +10,6 @@ returns-in-Some-outside c fit = front_out (neg_ℤ (pos 200000)) (pos 200000) _ 
 
 pub returns-in-None : goal.returns-in-None
 returns-in-None c = record {
-  ends = front_in (pos 0) (pos 20000) _ c.args.numbers.now.ends (omega arith) c.in-default.ensures;
+  ends = front_in (pos 0) (pos 20000) _ c.args.numbers.now.ends (omega arith) c.in_default.ensures;
   prices = front_in (neg_ℤ (pos 200000)) (pos 200000) _ c.args.numbers.now.prices (omega arith) c.in-None.ensures;
 }
