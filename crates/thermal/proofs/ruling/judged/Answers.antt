@@ -12,9 +12,9 @@ use Rattle.kinds.proofs.Units.{period_cost_within, output_lawful}
 use Rattle.kinds.proofs.Verdicts.{lawful_more, judged_lawful, judged_broken}
 use Rattle.kinds.proofs.Walking.{mark_next, lasting_next, output_next, lasting_within}
 use Rattle.thermal.proofs.ruling.judged.Goals as goal
-use Rattle.thermal.proofs.ruling.judged.Goals.{After-first-broken, After-period-cost}
+use Rattle.thermal.proofs.ruling.judged.Goals.{After-first_broken, After-period_cost}
 
-abbrev schedule : After-first-broken → Schedule
+abbrev schedule : After-first_broken → Schedule
 schedule c = record { marks = c.args.marks.now; outputs = c.args.outputs.now }
 
 -- the rules as they are asked are the first that is broken
@@ -24,30 +24,30 @@ unfolding first_broken
 asked_is u b h o m p = λ _. first_broken u b h o m p
 
 -- an output as it is passed on
-output_same : (c : After-first-broken) → to_z w32 (of_z w32 (at c.args.outputs.now c.loop-period.period)) ≡ at c.args.outputs.now c.loop-period.period
+output_same : (c : After-first_broken) → to_z w32 (of_z w32 (at c.args.outputs.now c.loop-period.period)) ≡ at c.args.outputs.now c.loop-period.period
 output_same c = let f : SFits w32 (at c.args.outputs.now c.loop-period.period) = search rules in to_z-of_z w32 _ f
 
-rule_is : (c : After-first-broken) → c.first-broken.result ≡ rule c.args.unit.now (schedule c) c.loop-period.period
+rule_is : (c : After-first_broken) → c.first_broken.result ≡ rule c.args.unit.now (schedule c) c.loop-period.period
 rule_is c =
-    c.first-broken.ensures ∙ asked_is _ _ _ _ _ _
+    c.first_broken.ensures ∙ asked_is _ _ _ _ _ _
     ∙ λ j. first_broken c.args.unit.now (c.loop-period.invariant.0 j) (c.loop-period.invariant.1 j) (c.loop-period.invariant.2 j) (mark_in (schedule c) c.loop-period.period) (output_same c j)
 
-cost_is : (c : After-period-cost) → c.period-cost.result.0 ≡ cost_in c.args.unit.now (schedule (goal.at.add-cost-requires c).After-first-broken) c.loop-period.period
+cost_is : (c : After-period_cost) → c.period_cost.result.0 ≡ cost_in c.args.unit.now (schedule (goal.at.add-cost-requires c).After-first_broken) c.loop-period.period
 cost_is c =
-    let i = (goal.at.add-cost-requires c).After-first-broken in
-    c.period-cost.ensures ∙ λ j. period_cost c.args.unit.now (c.loop-period.invariant.0 j) (mark_in (schedule i) c.loop-period.period) (output_same i j)
+    let i = (goal.at.add-cost-requires c).After-first_broken in
+    c.period_cost.ensures ∙ λ j. period_cost c.args.unit.now (c.loop-period.invariant.0 j) (mark_in (schedule i) c.loop-period.period) (output_same i j)
 
 pub returns-in-Some : goal.returns-in-Some
 returns-in-Some c =
-    let i = (goal.at.returns-in-Some c).After-first-broken in
+    let i = (goal.at.returns-in-Some c).After-first_broken in
     judged_broken _ _ _ c.loop-period.period _ _ c.loop-period-test.true c.loop-period.invariant.4 (sym (rule_is i) ∙ c.in-Some.is)
 
 pub add-cost-requires : goal.add-cost-requires
 add-cost-requires c =
-    let i = (goal.at.add-cost-requires c).After-first-broken in
+    let i = (goal.at.add-cost-requires c).After-first_broken in
     let u = c.args.unit.now in
     let so_far : Within (c.loop-period.period * 12400000000000) c.loop-period.cost.0 = subst (Within (c.loop-period.period * 12400000000000)) (sym c.loop-period.invariant.4.sum) (total_within c.loop-period.period 12400000000000 (cost_in u (schedule i)) (λ t h. period_cost_within u c.requires.made _ _ _)) in
-    let e = c.period-cost.ensures in
+    let e = c.period_cost.ensures in
     let here = period_cost_within u c.requires.made c.loop-period.before.mark (mark_in (schedule i) c.loop-period.period) (to_z w32 (of_z w32 (at c.args.outputs.now c.loop-period.period))) in
     omega (arith, ints)
 
@@ -58,11 +58,11 @@ after-before-requires c =
 
 pub loop-period-preserved : goal.loop-period-preserved
 loop-period-preserved c =
-    let i = (goal.at.loop-period-preserved c).After-first-broken in
-    let k = (goal.at.loop-period-preserved c).After-period-cost in
+    let i = (goal.at.loop-period-preserved c).After-first_broken in
+    let k = (goal.at.loop-period-preserved c).After-period_cost in
     let u = c.args.unit.now in
     let t = c.loop-period.period in
-    let kept : rule u (schedule i) t ≡ None = sym (rule_is i) ∙ c.in-default.is in
+    let kept : rule u (schedule i) t ≡ None = sym (rule_is i) ∙ c.in_default.is in
     let same : c.after-before.result.output.0 ≡ at c.args.outputs.now t = c.after-before.ensures.output ∙ output_same i in (
       c.after-before.ensures.mark ∙ sym (mark_next u.mark c.args.marks.now t),
       c.after-before.ensures.lasted ∙ (λ j. cond (eqb (mark_in (schedule i) t) (c.loop-period.invariant.0 j)) (c.loop-period.invariant.1 j + 1) 1) ∙ sym (lasting_next u.mark u.lasted c.args.marks.now t),

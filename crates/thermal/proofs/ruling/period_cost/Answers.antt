@@ -3,15 +3,15 @@ use Rattle.std.proofs.lemmas.Int.{ints}
 use Rattle.kinds.specs.Thermal.{period_cost}
 use Rattle.kinds.proofs.Units.{period_cost_within}
 use Rattle.thermal.proofs.ruling.period_cost.Goals as goal
-use Rattle.thermal.proofs.ruling.period_cost.Goals.{After-start-part}
+use Rattle.thermal.proofs.ruling.period_cost.Goals.{After-start_part}
 
 -- the two parts together
-sum_is : (c : After-start-part) → c.running-part.result.0 +ℤ c.start-part.result.0 ≡ period_cost c.args.unit.now c.args.before c.args.mark c.args.output.0
+sum_is : (c : After-start_part) → c.running_part.result.0 +ℤ c.start_part.result.0 ≡ period_cost c.args.unit.now c.args.before c.args.mark c.args.output.0
 unfolding period_cost
-sum_is c = λ j. c.running-part.ensures j +ℤ c.start-part.ensures j
+sum_is c = λ j. c.running_part.ensures j +ℤ c.start_part.ensures j
 
 pub add-requires : goal.add-requires
 add-requires c = let e = sum_is c in let w = period_cost_within c.args.unit.now c.requires c.args.before c.args.mark c.args.output.0 in omega (arith, ints)
 
 pub returns : goal.returns
-returns c = c.add.ensures ∙ sum_is (goal.at.returns c).After-start-part
+returns c = c.add.ensures ∙ sum_is (goal.at.returns c).After-start_part

@@ -7,7 +7,7 @@ use Rattle.thermal.proofs.ruling.running_part.Goals as goal
 
 pub add-requires : goal.add-requires
 add-requires c =
-    let e : c.running-cost.result.0 ≡ running_cost c.args.unit.now.curve c.args.output.0 = c.running-cost.ensures ∙ ap (λ n. running_cost n c.args.output.0) c.made-curve.ensures in
+    let e : c.running_cost.result.0 ≡ running_cost c.args.unit.now.curve c.args.output.0 = c.running_cost.ensures ∙ ap (λ n. running_cost n c.args.output.0) c.made_curve.ensures in
     let a = running_cost_within c.args.unit.now.curve c.requires.curve c.args.output.0 in
     let b = no_load_within c.args.unit.now c.requires in
     omega (arith, ints, c.grains.ensures)

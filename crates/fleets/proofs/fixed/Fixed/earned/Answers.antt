@@ -29,7 +29,7 @@ output_same : (c : After-output) → to_z w32 (of_z w32 c.output.result) ≡ fix
 output_same c = same ∙ c.output.ensures
   where
     same : to_z w32 (of_z w32 c.output.result) ≡ c.output.result
-    same = omega (arith, ints, c.output.type-inv)
+    same = omega (arith, ints, c.output.type_inv)
 
 product_same : (c : After-output) → to_z w64 (of_z w64 (at c.args.net.now c.loop-period.period)) *ℤ to_z w32 (of_z w32 c.output.result) ≡ term c c.loop-period.period
 product_same c = λ j. net_same c j *ℤ output_same c j

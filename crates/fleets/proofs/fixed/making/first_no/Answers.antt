@@ -8,7 +8,7 @@ pub returns-in-Some : goal.returns-in-Some
 returns-in-Some c = shape _ (shape_told _ _ _ (Some c.in-Some.refusal) c.in-Some.ensures)
 
 pub returns-in-Some-outside : goal.returns-in-Some-outside
-returns-in-Some-outside c = refused_output _ (shape_told _ _ _ None c.in-default.ensures) _ c.in-Some-outside.ensures
+returns-in-Some-outside c = refused_output _ (shape_told _ _ _ None c.in_default.ensures) _ c.in-Some-outside.ensures
 
 pub returns-in-None : goal.returns-in-None
-returns-in-None c = fits _ (shape_told _ _ _ None c.in-default.ensures) c.in-None.ensures
+returns-in-None c = fits _ (shape_told _ _ _ None c.in_default.ensures) c.in-None.ensures

@@ -3,5 +3,5 @@ use Rattle.kinds.proofs.RenewableTables.{made_so}
 use Rattle.fleets.specs.Held.{stations_of}
 use Rattle.fleets.proofs.renewables.Renewables.curve.Goals as goal
 
-pub invariant-of-result : goal.invariant-of-result
-invariant-of-result c = (made_told _ ((made_so (stations_of c.args.self.now) c.args.self.now.made).curves c.args.row c.requires), tt)
+pub invariant_of-result : goal.invariant_of-result
+invariant_of-result c = record { made = made_told _ ((made_so (stations_of c.args.self.now) c.args.self.now.made).curves c.args.row c.requires) }

@@ -4,8 +4,8 @@ use Rattle.kinds.specs.Renewables.{table, curve, RowFits, RowRefused, no_row}
 use Rattle.kinds.proofs.RenewableTables.{part_is}
 use Rattle.fleets.proofs.renewables.making.no_row.Goals as goal
 
-pub slice-bounds-row-no-end : goal.slice-bounds-row-no-end
-slice-bounds-row-no-end c = let e = part_ends c.loop-row.row c.args.periods _ c.loop-row-test.true in omega (arith, c.requires.lengths.all)
+pub slice_bounds-row_no-end : goal.slice_bounds-row_no-end
+slice_bounds-row_no-end c = let e = part_ends c.loop-row.row c.args.periods _ c.loop-row-test.true in omega (arith, c.requires.lengths.all)
 
 pub returns-in-Some : goal.returns-in-Some
 returns-in-Some c =
@@ -15,4 +15,4 @@ returns-in-Some c =
 pub loop-row-preserved : goal.loop-row-preserved
 loop-row-preserved c =
     let f = table c.args.periods c.args.stations.now c.args.available.now in
-    below_more _ _ c.loop-row.invariant (subst (RowFits (curve f c.loop-row.row)) (part_is f c.loop-row.row) c.in-default.ensures)
+    below_more _ _ c.loop-row.invariant (subst (RowFits (curve f c.loop-row.row)) (part_is f c.loop-row.row) c.in_default.ensures)

@@ -41,14 +41,14 @@ later c =
 cells : (c : After-weights) (k : ℕ) → c.loop-period.period - 1 + 1 ≤ k → k ≤ length c.args.net.now → Within 43430400000000000 (at c.loop-period.walk.run k) × Within 43430400000000000 (at c.loop-period.walk.on k) × Within 43430400000000000 (at c.loop-period.walk.off k)
 cells c = cells_within c.args.unit.now c.requires.made (prices c) c.requires.prices (length c.args.net.now) c.requires.lengths.0 (c.loop-period.period - 1 + 1) _ _ _ (later c)
 
-pub step-back-requires : goal.step-back-requires
-step-back-requires c =
+pub step_back-requires : goal.step_back-requires
+step_back-requires c =
     let few = c.requires.lengths.0 in
     let running = c.requires.made.numbers.least_running.0 in
     let stopped = c.requires.made.numbers.least_stopped.0 in
     let here = cells c (c.loop-period.period - 1 + 1) (omega arith) (omega arith) in
-    let stop = cells c c.free-from-may-stop.result (omega arith) (omega arith) in
-    let start = cells c c.free-from-may-start.result (omega arith) (omega arith) in
+    let stop = cells c c.free_from-may_stop.result (omega arith) (omega arith) in
+    let start = cells c c.free_from-may_start.result (omega arith) (omega arith) in
     record {
       place = (omega arith, (omega arith, omega arith));
       weights = c.weights.ensures.small;
@@ -66,12 +66,12 @@ loop-period-preserved c =
     let off = c.loop-period.walk.off in
     let w = c.weights.ensures in
     let long = c.loop-period.invariant in (
-      walked_as c.step-back.ensures.run c.step-back.ensures.on c.step-back.ensures.off
+      walked_as c.step_back.ensures.run c.step_back.ensures.on c.step_back.ensures.off
           (walked_step c.args.unit.now (prices i) (length c.args.net.now) run on off t (omega arith) (later i) c.requires.made.numbers.least_running.0 c.requires.made.numbers.least_stopped.0 _ _ _ (omega arith) (omega arith) (omega arith)
           (λ j. w.run j +ℤ at run (t + 1))
-          (λ j. int_min (w.run j +ℤ at on (t + 1)) (w.stop j +ℤ at off (c.free-from-may-start.ensures j)))
-          (λ j. int_min (at off (t + 1)) (w.start j +ℤ (at run (t + 1) -ℤ at run (c.free-from-may-stop.ensures j) +ℤ at on (c.free-from-may-stop.ensures j))))),
-      ap length c.step-back.ensures.run ∙ length-set run t _ ∙ long.1,
-      ap length c.step-back.ensures.on ∙ length-set on t _ ∙ long.2,
-      ap length c.step-back.ensures.off ∙ length-set off t _ ∙ long.3,
+          (λ j. int_min (w.run j +ℤ at on (t + 1)) (w.stop j +ℤ at off (c.free_from-may_start.ensures j)))
+          (λ j. int_min (at off (t + 1)) (w.start j +ℤ (at run (t + 1) -ℤ at run (c.free_from-may_stop.ensures j) +ℤ at on (c.free_from-may_stop.ensures j))))),
+      ap length c.step_back.ensures.run ∙ length-set run t _ ∙ long.1,
+      ap length c.step_back.ensures.on ∙ length-set on t _ ∙ long.2,
+      ap length c.step_back.ensures.off ∙ length-set off t _ ∙ long.3,
     )

@@ -9,33 +9,33 @@ use Rattle.kinds.proofs.Units.{value_within}
 use Rattle.kinds.proofs.Walking.{running_weight_is}
 use Rattle.kinds.proofs.Weighing.{weight_joined}
 use Rattle.thermal.proofs.ruling.pricing.weights.Goals as goal
-use Rattle.thermal.proofs.ruling.pricing.weights.Goals.{After-value, After-running-weight-runs}
+use Rattle.thermal.proofs.ruling.pricing.weights.Goals.{After-value, After-running_weight-runs}
 
 worth_small : (c : After-value) → Within 20000000000 c.value.result.0
 worth_small c = subst (λ z. Within 20000000000 z) (sym c.value.ensures) (value_within c.args.unit.now c.requires.made _ c.requires.prices c.args.period)
 
-pub running-weight-runs-requires : goal.running-weight-runs-requires
-running-weight-runs-requires c = record { made = c.requires.made; small = worth_small c }
+pub running_weight-runs-requires : goal.running_weight-runs-requires
+running_weight-runs-requires c = record { made = c.requires.made; small = worth_small c }
 
-abbrev prices : After-running-weight-runs → RowPrices
+abbrev prices : After-running_weight-runs → RowPrices
 prices c = record { net = c.args.net.now; rise = c.args.rise.now; fall = c.args.fall.now }
 
-runs_is : (c : After-running-weight-runs) → c.running-weight-runs.result.0 ≡ running_weight c.args.unit.now (prices c) c.args.period
+runs_is : (c : After-running_weight-runs) → c.running_weight-runs.result.0 ≡ running_weight c.args.unit.now (prices c) c.args.period
 runs_is c =
     let u = c.args.unit.now in
-    c.running-weight-runs.ensures.told ∙ ap (λ v. least_over (lowest u.curve) (highest u.curve) (net_cost u.curve v) +ℤ yuan u.no_load) c.value.ensures
+    c.running_weight-runs.ensures.told ∙ ap (λ v. least_over (lowest u.curve) (highest u.curve) (net_cost u.curve v) +ℤ yuan u.no_load) c.value.ensures
     ∙ sym (running_weight_is u (prices c) c.args.period)
 
 -- the prices as they are passed on
-rise_same : (c : After-running-weight-runs) → to_z w32 (of_z w32 (at c.args.rise.now c.args.period)) ≡ at c.args.rise.now c.args.period
+rise_same : (c : After-running_weight-runs) → to_z w32 (of_z w32 (at c.args.rise.now c.args.period)) ≡ at c.args.rise.now c.args.period
 rise_same c = let h = c.requires.prices.rise c.args.period in omega (arith, ints)
 
-fall_same : (c : After-running-weight-runs) → to_z w32 (of_z w32 (at c.args.fall.now c.args.period)) ≡ at c.args.fall.now c.args.period
+fall_same : (c : After-running_weight-runs) → to_z w32 (of_z w32 (at c.args.fall.now c.args.period)) ≡ at c.args.fall.now c.args.period
 fall_same c = let h = c.requires.prices.fall c.args.period in omega (arith, ints)
 
 pub returns : goal.returns
 returns c =
-    let i = (goal.at.returns c).After-running-weight-runs in
+    let i = (goal.at.returns c).After-running_weight-runs in
     let u = c.args.unit.now in
     let q = prices i in
     let t = c.args.period in

@@ -7,8 +7,8 @@ use Rattle.kinds.proofs.ThermalTables.{made_so}
 use Rattle.kinds.proofs.Units.{prices_fit}
 use Rattle.thermal.proofs.table.Thermal.priced.Goals as goal
 
-pub floor-at-requires : goal.floor-at-requires
-floor-at-requires c =
+pub floor_at-requires : goal.floor_at-requires
+floor_at-requires c =
     let made = made_so (table c.args.self.now.periods c.args.self.now.units.now) c.args.self.now.made in
     let q : RowPrices = record { net = c.args.net.now; rise = c.args.rise.now; fall = c.args.fall.now } in
     let m = units c.args.self.now.periods c.args.self.now.units.now in
