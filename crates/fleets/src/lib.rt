@@ -1,4 +1,6 @@
 // Tables of rows as fleets, each made by its questions in order, and fleets joined.
+#![tactic(auto)]
+
 mod fixed;
 mod joined;
 mod renewables;

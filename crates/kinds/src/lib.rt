@@ -1,5 +1,7 @@
 // Curves, the records of units and stations, and what each kind of fleet means: definitions, and the proofs that each kind shows the
 // facts of a fleet.
+#![tactic(auto)]
+
 mod curve;
 mod curve_numbers;
 mod rules;

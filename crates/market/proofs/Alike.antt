@@ -1,10 +1,10 @@
 -- Fleets that no question tells apart are told the same of a plan. Assumes nothing.
-use Rattle.std.proofs.Common.{◌≡◌, ℕ, ◌*◌, ◌<◌, ◌≤◌, true, length, ℤ, pos, ◌-ℤ◌, ◌*ℤ◌, ◌≤ℤ◌, is_ok, Ok, Err, Result, sym, ap, ◌∙◌, subst, arith}
+use Rattle.std.proofs.Common.{◌≡◌, ℕ, ◌*◌, ◌<◌, ◌≤◌, ℤ, pos, ◌-ℤ◌, ◌*ℤ◌, ◌≤ℤ◌, is_ok, Ok, Err, Result, sym, ap, ◌∙◌, subst, arith}
 use Rattle.measures.specs.declared.Grains.{Grains}
 use Rattle.market.specs.declared.refusal.Refusal.{Refusal}
 use Rattle.market.specs.Clearing.{Plan, Placed, RowsKept, Balanced, LinesKept, Cleared, UnderUpper, OverLower, Lawful, BreaksFirst, row_rule, balance, upper_limit, lower_limit, row, output, load, factor, supply, flow, amount, cost}
 use Rattle.market.specs.Days.{Numbers}
-use Rattle.market.specs.Fleet.{Meaning, Fits, Priced, Same}
+use Rattle.market.specs.Fleet.{Meaning, Fits, Same}
 use Rattle.market.specs.Judging.{Ready, Refused, PlanSized, unplaced, lengths, broken, Answered}
 use Rattle.market.specs.Placing.{Unplaced, sizes}
 use Rattle.market.specs.Placing as Placing

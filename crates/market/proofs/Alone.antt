@@ -5,7 +5,7 @@ use Rattle.measures.specs.Amounts.{grains}
 use Rattle.measures.specs.declared.Grains.{Grains}
 use Rattle.market.specs.declared.refusal.Broken.{Broken}
 use Rattle.market.specs.declared.refusal.Refusal.{Refusal}
-use Rattle.market.specs.Clearing.{Plan, Placed, RowsKept, Balanced, LinesKept, Cleared, UnderUpper, OverLower, BreaksFirst, row_rule, balance, upper_limit, lower_limit, row}
+use Rattle.market.specs.Clearing.{Plan, RowsKept, Balanced, LinesKept, Cleared, UnderUpper, OverLower, BreaksFirst, row_rule, balance, upper_limit, lower_limit, row}
 use Rattle.market.specs.Days.{Numbers, refusal}
 use Rattle.market.specs.Fleet.{Meaning}
 use Rattle.market.specs.Judging.{Refused, unplaced, lengths, broken, Answered, SmallTold, Told}

@@ -1,5 +1,5 @@
 -- The answer to a plan of right lengths, computed: for days and plans that are written out. Assumes nothing.
-use Rattle.std.proofs.Common.{◌≡◌, ℕ, zero, suc, ◌+◌, ◌<◌, ◌≤◌, Bool, true, false, cond, ◌&&◌, ℤ, pos, ◌+ℤ◌, ◌*ℤ◌, ◌≤ℤ◌, Some, None, Ok, Err, Option, Result, sym, refl, ap, ◌∙◌, subst, add-one, arith, below_more}
+use Rattle.std.proofs.Common.{◌≡◌, ℕ, zero, suc, ◌+◌, ◌<◌, ◌≤◌, Bool, true, false, cond, ◌&&◌, ℤ, pos, ◌+ℤ◌, ◌*ℤ◌, ◌≤ℤ◌, Some, None, Ok, Err, Option, Result, refl, subst, add-one, arith, below_more}
 use lib.Signed.{le_z}
 use Rattle.std.proofs.lemmas.Int.{ints}
 use Rattle.std.proofs.lemmas.Bool.{and_parts, and_from, both_ways}
@@ -7,7 +7,7 @@ use Rattle.measures.specs.Amounts.{grains}
 use Rattle.measures.specs.declared.Grains.{Grains}
 use Rattle.market.specs.declared.refusal.Broken.{Broken}
 use Rattle.market.specs.declared.refusal.Refusal.{Refusal}
-use Rattle.market.specs.Clearing.{Plan, RowsKept, Balanced, LinesKept, Cleared, Lawful, BreaksFirst, balance, upper_limit, lower_limit, row, supply, demand, flow, UnderUpper, OverLower}
+use Rattle.market.specs.Clearing.{Plan, RowsKept, Balanced, LinesKept, Cleared, BreaksFirst, balance, upper_limit, lower_limit, row, supply, demand, flow, UnderUpper, OverLower}
 use Rattle.market.specs.Days.{Numbers, refusal}
 use Rattle.market.specs.Fleet.{Meaning, Facts}
 use Rattle.market.specs.Judging.{Ready, Answered, broken}

@@ -6,10 +6,10 @@ use Rattle.std.proofs.lemmas.Int.{ints}
 use Rattle.std.proofs.lemmas.Bool.{cond-true, and_from, lt-ltb, eq-eqb}
 use Rattle.measures.specs.declared.Grains.{Grains}
 use Rattle.market.specs.declared.refusal.Broken.{Broken}
-use Rattle.market.specs.Bounding.{SystemFits, PricesFit, Over, over, AllFit, LinesPriced, Ready, Netted, pays, comes, loads_pay, limits_come, PeriodsFloored, RowsFloored, Floored, Bounded}
-use Rattle.market.specs.Clearing.{PriceSet, Placed, Sized, InRange, part, range, load, net_price, row_prices, floor}
+use Rattle.market.specs.Bounding.{Over, over, LinesPriced, Ready, Netted, pays, comes, loads_pay, limits_come, PeriodsFloored, RowsFloored, Floored, Bounded}
+use Rattle.market.specs.Clearing.{PriceSet, InRange, part, range, load, net_price, row_prices}
 use Rattle.market.specs.Days.{Numbers, Made, refusal}
-use Rattle.market.specs.Fleet.{Meaning, Facts, Priced, RowPrices, unless, floor_answer}
+use Rattle.market.specs.Fleet.{Meaning, Facts, Priced, unless, floor_answer}
 use Rattle.market.specs.Scans.{at, Within, UpTo, FirstOut}
 use Rattle.market.specs.Totals.{total}
 use Rattle.market.proofs.Cells.{length_part_within, at_part, length_range, at_range, place_below}

@@ -1,5 +1,5 @@
 -- A price set that is refused is not one in range, for a fleet that fits. Assumes nothing.
-use Rattle.std.proofs.Common.{◌≡◌, ℕ, ◌+◌, ◌*◌, ◌<◌, List, length, ℤ, pos, arith}
+use Rattle.std.proofs.Common.{◌≡◌, ℕ, ◌+◌, ◌*◌, ◌<◌, List, length, ℤ, arith}
 use Rattle.market.specs.declared.refusal.Refusal.{Refusal}
 use Rattle.market.specs.Bounding.{Over, over, OutOfRange, system, upper, lower, rise, fall, Refused, Rejected, unplaced, lengths, range}
 use Rattle.market.specs.Clearing.{PriceSet, Placed, Sized, InRange}

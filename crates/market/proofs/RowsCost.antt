@@ -4,7 +4,7 @@ use Rattle.std.proofs.lemmas.Int.{ints}
 use Rattle.std.proofs.lemmas.Bool.{cond-true, and_from, lt-ltb, eq-eqb}
 use Rattle.measures.specs.declared.Grains.{Grains}
 use Rattle.market.specs.declared.refusal.Broken.{Broken}
-use Rattle.market.specs.Clearing.{Plan, part, row, amount, RowsKept, BreaksFirst, row_rule, cost}
+use Rattle.market.specs.Clearing.{Plan, row, amount, RowsKept, BreaksFirst, row_rule}
 use Rattle.market.specs.Days.{Numbers, refusal}
 use Rattle.market.specs.Fleet.{Meaning, Facts, Fits, verdict_answer}
 use Rattle.market.specs.Judging.{Ready, RowsJudged, SmallTold}

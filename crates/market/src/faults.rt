@@ -28,7 +28,7 @@ fn outside_net(net: &[i64], low: i64, high: i64) -> Option<usize>
 
 // The first price outside its limits, told as 19 with its period: net prices, then prices of rises, then of falls.
 fn asked(net: &[i64], rise: &[i32], fall: &[i32]) -> Option<Broken>
-    ensures { result ≡ row_fault (record { net = net.entry.now; rise = rise.now; fall = fall.now }) }
+    ensures { result ≡ row_fault (record { net = net.now; rise = rise.now; fall = fall.now }) }
 {
     if let Some(t) = outside_net(net, -MOST_NET, MOST_NET) {
         return Some(Broken {
@@ -53,7 +53,7 @@ fn asked(net: &[i64], rise: &[i32], fall: &[i32]) -> Option<Broken>
 
 // What a fleet asks of a row's prices, once their lists have a cell for each period.
 pub fn price_fault(net: &[i64], rise: &[i32], fall: &[i32]) -> Option<Broken>
-    ensures { result ≡ row_fault (record { net = net.entry.now; rise = rise.now; fall = fall.now }) }
+    ensures { result ≡ row_fault (record { net = net.now; rise = rise.now; fall = fall.now }) }
 {
     asked(net, rise, fall)
 }

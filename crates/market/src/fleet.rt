@@ -31,11 +31,11 @@ pub trait Fleet {
 
     // The cost of a row's lawful schedule, or the first rule that it breaks.
     fn verdict(&self, row: usize, marks: &[u8], outputs: &[i32]) -> Result<Grains, Broken>
-        ensures { result ≡ verdict_answer (meaning_of (periods self.now) (size self.now) (node self.now) (verdict self.now) (floor self.now)) row (record { marks = marks.entry.now; outputs = outputs.now }) };
+        ensures { result ≡ verdict_answer (meaning_of (periods self.now) (size self.now) (node self.now) (verdict self.now) (floor self.now)) row (record { marks = marks.now; outputs = outputs.now }) };
 
     // The row's floor at these prices: net prices in grains per tenth and period, and prices of rises and falls in fen.
     fn floor(&self, row: usize, net: &[i64], rise: &[i32], fall: &[i32]) -> Result<Grains, Broken>
-        ensures { result ≡ floor_answer (meaning_of (periods self.now) (size self.now) (node self.now) (verdict self.now) (floor self.now)) row (record { net = net.entry.now; rise = rise.now; fall = fall.now }) };
+        ensures { result ≡ floor_answer (meaning_of (periods self.now) (size self.now) (node self.now) (verdict self.now) (floor self.now)) row (record { net = net.now; rise = rise.now; fall = fall.now }) };
 
     ghost facts: { (f : Self) → Facts (meaning_of (periods f) (size f) (node f) (verdict f) (floor f)) };
 }

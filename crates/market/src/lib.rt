@@ -1,4 +1,6 @@
 // The market: a day and its numbers, fleets by what they mean, plans judged and price sets bounded.
+#![tactic(auto)]
+
 mod clearing;
 mod day;
 mod faults;

@@ -1,3 +1,5 @@
+#![tactic(auto)]
+
 // Days, plans and price sets worked out by hand: three nodes, two lines, loads below zero, limits that bind below and above.
 #[cfg(test)]
 mod tests {

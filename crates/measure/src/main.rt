@@ -1,4 +1,6 @@
 // Reads a full file, 96 periods, 16 lines and 32 rows, over and over, and tells on standard error how long one reading takes.
+#![tactic(auto)]
+
 use std::alloc::{AllocError, Global};
 use std::time::Instant;
 use vendor::{Counts, FileFault, Shape, Tables, read};

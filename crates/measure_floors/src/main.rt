@@ -1,4 +1,6 @@
 // Asks for the floor of one unit over and over, and tells on standard error how long that takes.
+#![tactic(auto)]
+
 use anyhow::anyhow;
 use kinds::{CurveNumbers, ThermalUnit};
 use market::Fleet;

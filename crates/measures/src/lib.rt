@@ -1,5 +1,7 @@
 // Power, price and money, each in a measure of its own: a struct around one number. What goes from one measure to another has a name or is
 // a product of two measures, and its factor is exact.
+#![tactic(auto)]
+
 ghost use Rattle.std.specs.Prelude.{◌≡◌, pos, ◌+ℤ◌, ◌-ℤ◌, ◌*ℤ◌, FitsSigned, int_lt};
 ghost use Rattle.std.specs.Int.{w32, w64};
 

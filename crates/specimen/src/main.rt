@@ -1,4 +1,6 @@
 // Reads one vendor's file from standard input for the specimen's day, and prints its fault or a record of what it holds.
+#![tactic(auto)]
+
 ghost use Rattle.std.specs.Prelude.{◌≤◌, length, IfOk};
 
 use std::io;

@@ -1,4 +1,6 @@
 // Reads one vendor's file from standard input for the specimen's day, and prints how its plan and its prices are answered.
+#![tactic(auto)]
+
 ghost use Rattle.std.specs.Prelude.{◌≤◌, length, IfOk};
 
 use market::{Refusal, label_of};

@@ -1,5 +1,5 @@
 -- The files of the table are answered as it says: each is read, judged and bounded by computing. Assumes nothing.
-use Rattle.std.proofs.Common.{◌≡◌, ℕ, zero, suc, ◌<◌, ◌≤◌, true, List, [], ◌∷◌, length, ℤ, pos, neg_ℤ, Ok, Err, Result, sym, refl, subst, arith, lit<, lit≤}
+use Rattle.std.proofs.Common.{◌≡◌, ℕ, zero, suc, ◌<◌, ◌≤◌, true, List, [], ◌∷◌, length, ℤ, pos, neg_ℤ, Ok, Result, sym, refl, subst, arith, lit<, lit≤}
 use Rattle.std.proofs.lemmas.Int.{ints}
 use Rattle.measures.specs.Amounts.{grains}
 use Rattle.measures.specs.declared.Grains.{Grains}
@@ -30,7 +30,6 @@ use Rattle.vendor.specs.Files.{Contents, answer, tables_after}
 use Rattle.vendor.specs.Numbers.{number}
 use Rattle.vendor.specs.Pieces.{pieces}
 use Rattle.vendor.specs.Rows.{row_fault}
-use Rattle.specimen_day.specs.declared.answers.Answers.{Answers}
 use Rattle.specimen_day.specs.Specimen.{day, unit_0, unit_1, station, fleet, shape, plan, prices, empty, Tells, taken, StarsFollow}
 
 -- ---- the day is a day, and the fleet a fleet that fits it

@@ -1,5 +1,5 @@
 -- The specimen's day and fleet, and how a vendor's file is answered for them. Assumes nothing.
-use Rattle.std.specs.Prelude.{◌≡◌, ℕ, ◌<◌, ◌≤◌, List, [], ◌∷◌, length, ℤ, pos, neg_ℤ, Ok, Err, codes, Result}
+use Rattle.std.specs.Prelude.{◌≡◌, ℕ, ◌<◌, ◌≤◌, List, [], ◌∷◌, length, pos, neg_ℤ, Ok, Err, codes, Result}
 use Rattle.std.specs.List.{AllByRecursion as All}
 use Rattle.measures.specs.Amounts.{grains}
 use Rattle.measures.specs.declared.Grains.{Grains}

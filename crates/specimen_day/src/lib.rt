@@ -1,4 +1,6 @@
 // The specimen: a small day with two thermal units and a renewable station, and how a vendor's file is answered for it.
+#![tactic(auto)]
+
 mod answers;
 mod offering;
 mod rows;

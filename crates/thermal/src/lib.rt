@@ -1,4 +1,6 @@
 // Thermal units: rows that start and stop, by rules on their times, their outputs and their ramps.
+#![tactic(auto)]
+
 mod rules;
 mod ruling;
 mod table;

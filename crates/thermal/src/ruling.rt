@@ -204,7 +204,7 @@ fn period_cost(unit: &ThermalUnit, before: u8, mark: u8, output: Tenths) -> Grai
 fn judged(unit: &ThermalUnit, marks: &[u8], outputs: &[i32]) -> Result<Grains, Broken>
     requires made { UnitMade unit.now }
     requires lengths { (length marks.now ≡ length outputs.now) × (length marks.now ≤ 96) }
-    ensures { Judged (rule unit.now (record { marks = marks.entry.now; outputs = outputs.now })) (cost_in unit.now (record { marks = marks.entry.now; outputs = outputs.now })) (length marks.entry.now) result }
+    ensures { Judged (rule unit.now (record { marks = marks.now; outputs = outputs.now })) (cost_in unit.now (record { marks = marks.now; outputs = outputs.now })) (length marks.now) result }
 {
     let mut before = before_day(unit);
     let mut cost = Grains(0);

@@ -1,5 +1,7 @@
 // Reads one row a line from standard input, a thermal unit's record with a schedule and prices, and prints the verdict on the schedule
 // and the row's floor at the prices. The rows that the run compares come from an independent implementation of the same rules.
+#![tactic(auto)]
+
 ghost use Rattle.std.specs.Prelude.{◌≤◌};
 
 use kinds::{CurveNumbers, ThermalUnit};

@@ -1,3 +1,5 @@
+#![tactic(auto)]
+
 // Tables, verdicts and floors of thermal units worked out by hand.
 #[cfg(test)]
 mod tests {

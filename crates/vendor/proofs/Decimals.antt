@@ -1,5 +1,5 @@
 -- Digits read from the left, and when they are plain. Assumes nothing.
-use Rattle.std.proofs.Common.{◌≡◌, ℕ, ◌+◌, ◌-◌, ◌*◌, ◌<◌, ◌≤◌, true, false, not, ◌||◌, eqb, leb, ◌⊎◌, List, length, get_or, take, drop, sym, ap, ◌∙◌, ⊎_elim, arith, length-take-le, get_or-take}
+use Rattle.std.proofs.Common.{◌≡◌, ℕ, ◌+◌, ◌-◌, ◌*◌, ◌<◌, ◌≤◌, true, false, not, ◌||◌, eqb, leb, List, length, get_or, take, drop, sym, ap, ◌∙◌, ⊎_elim, arith, length-take-le, get_or-take}
 use Rattle.std.specs.Str.Parse.{digits_value}
 use Rattle.std.specs.Int.{IsInRange}
 use Rattle.std.specs.Char.{is_ascii_digit, digit_value as digitValue}

@@ -7,7 +7,6 @@ use Rattle.vendor.specs.declared.rows.Entry.TheVariants as entry
 use Rattle.vendor.specs.declared.rows.Group.TheVariants.{Outputs, System, Lines, Ramps}
 use Rattle.vendor.specs.declared.tables.Tables.{Tables}
 use Rattle.vendor.specs.declared.tables.Counts.{Counts}
-use Rattle.vendor.specs.Rows as rows
 use Rattle.vendor.specs.Files.{Contents, RightLengths, lines, entries, fault_of, filled, tables_after, cell, told, first, second, first_natural}
 
 -- the same memory is lent before and after

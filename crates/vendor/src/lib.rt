@@ -1,4 +1,6 @@
 // Reads a vendor's file: rows of plan outputs and prices, checked whole and then written into lent tables.
+#![tactic(auto)]
+
 mod faults;
 mod numbers;
 mod reader;

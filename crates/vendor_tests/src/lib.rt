@@ -1,3 +1,5 @@
+#![tactic(auto)]
+
 // The reader on files worked out by hand, for the specimen's shape: 2 periods, 1 line, 3 rows.
 #[cfg(test)]
 mod tests {

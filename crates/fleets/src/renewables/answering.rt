@@ -40,7 +40,7 @@ impl Renewables<'_> {
     fn rule(&self, row: usize, period: usize, marks: &[u8], outputs: &[i32]) -> Option<u8>
         requires place { (row < length self.now.stations.now) × (period < self.now.periods) }
         requires lengths { (length marks.now ≡ self.now.periods) × (length outputs.now ≡ self.now.periods) }
-        ensures { result ≡ rule_at (stations_of self.now) row (record { marks = marks.entry.now; outputs = outputs.now }) period }
+        ensures { result ≡ rule_at (stations_of self.now) row (record { marks = marks.now; outputs = outputs.now }) period }
     {
         if marks[period] != RUNNING {
             return Some(MARK);
@@ -80,7 +80,7 @@ impl Renewables<'_> {
     fn judged(&self, row: usize, marks: &[u8], outputs: &[i32]) -> Result<Grains, Broken>
         requires row { row < length self.now.stations.now }
         requires lengths { (length marks.now ≡ self.now.periods) × (length outputs.now ≡ self.now.periods) }
-        ensures { Judged (rule_at (stations_of self.now) row (record { marks = marks.entry.now; outputs = outputs.now })) (cost_at (stations_of self.now) row (record { marks = marks.entry.now; outputs = outputs.now })) self.now.periods result }
+        ensures { Judged (rule_at (stations_of self.now) row (record { marks = marks.now; outputs = outputs.now })) (cost_at (stations_of self.now) row (record { marks = marks.now; outputs = outputs.now })) self.now.periods result }
     {
         let mut cost = Grains(0);
         for period in 0..self.periods {
@@ -112,7 +112,7 @@ impl Renewables<'_> {
     fn priced(&self, row: usize, net: &[i64], rise: &[i32], fall: &[i32]) -> Result<Grains, Broken>
         requires row { row < length self.now.stations.now }
         requires lengths { (length net.now ≡ self.now.periods) × ((length rise.now ≡ self.now.periods) × (length fall.now ≡ self.now.periods)) }
-        ensures { result ≡ priced_answer (record { net = net.entry.now; rise = rise.now; fall = fall.now }) ((renewables (stations_of self.now)).floor row (record { net = net.entry.now; rise = rise.now; fall = fall.now })) }
+        ensures { result ≡ priced_answer (record { net = net.now; rise = rise.now; fall = fall.now }) ((renewables (stations_of self.now)).floor row (record { net = net.now; rise = rise.now; fall = fall.now })) }
     {
         match price_fault(net, rise, fall) {
             Some(broken) => Err(broken),

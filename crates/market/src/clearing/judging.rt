@@ -25,7 +25,7 @@ fn rows_cost<F: Fleet>(
     outputs: &[i32],
 ) -> Result<Grains, Refusal>
     requires { Ready (numbers_of day.now.numbers) (meaning_of (F.periods fleet.now) (F.size fleet.now) (F.node fleet.now) (F.verdict fleet.now) (F.floor fleet.now)) (record { marks = marks.now; outputs = outputs.now }) }
-    ensures judged { RowsJudged (numbers_of day.now.numbers) (meaning_of (F.periods fleet.now) (F.size fleet.now) (F.node fleet.now) (F.verdict fleet.now) (F.floor fleet.now)) (record { marks = marks.entry.now; outputs = outputs.now }) result }
+    ensures judged { RowsJudged (numbers_of day.now.numbers) (meaning_of (F.periods fleet.now) (F.size fleet.now) (F.node fleet.now) (F.verdict fleet.now) (F.floor fleet.now)) (record { marks = marks.now; outputs = outputs.now }) result }
     ensures small { SmallTold result }
 {
     let periods = day.numbers.periods;
@@ -75,7 +75,7 @@ fn gathered<F: Fleet>(
     requires kept { RowsKept (numbers_of day.now.numbers) (meaning_of (F.periods fleet.now) (F.size fleet.now) (F.node fleet.now) (F.verdict fleet.now) (F.floor fleet.now)) (record { marks = marks.now; outputs = outputs.now }) (F.size fleet.now) }
     requires on { period < day.now.numbers.periods }
     ensures long { length result ≡ 16 }
-    ensures fed { Fed (numbers_of day.now.numbers) (meaning_of (F.periods fleet.now) (F.size fleet.now) (F.node fleet.now) (F.verdict fleet.now) (F.floor fleet.now)) (record { marks = marks.entry.now; outputs = outputs.now }) period (F.size fleet.now) result }
+    ensures fed { Fed (numbers_of day.now.numbers) (meaning_of (F.periods fleet.now) (F.size fleet.now) (F.node fleet.now) (F.verdict fleet.now) (F.floor fleet.now)) (record { marks = marks.now; outputs = outputs.now }) period (F.size fleet.now) result }
 {
     let periods = day.numbers.periods;
     let size = fleet.size();
@@ -155,7 +155,7 @@ fn period_broken<F: Fleet>(
     requires ready { Ready (numbers_of day.now.numbers) (meaning_of (F.periods fleet.now) (F.size fleet.now) (F.node fleet.now) (F.verdict fleet.now) (F.floor fleet.now)) (record { marks = marks.now; outputs = outputs.now }) }
     requires kept { RowsKept (numbers_of day.now.numbers) (meaning_of (F.periods fleet.now) (F.size fleet.now) (F.node fleet.now) (F.verdict fleet.now) (F.floor fleet.now)) (record { marks = marks.now; outputs = outputs.now }) (F.size fleet.now) }
     requires on { period < day.now.numbers.periods }
-    ensures { PeriodTold (numbers_of day.now.numbers) (meaning_of (F.periods fleet.now) (F.size fleet.now) (F.node fleet.now) (F.verdict fleet.now) (F.floor fleet.now)) (record { marks = marks.entry.now; outputs = outputs.now }) period result }
+    ensures { PeriodTold (numbers_of day.now.numbers) (meaning_of (F.periods fleet.now) (F.size fleet.now) (F.node fleet.now) (F.verdict fleet.now) (F.floor fleet.now)) (record { marks = marks.now; outputs = outputs.now }) period result }
 {
     let fed = gathered(day, fleet, marks, outputs, period);
     if sum(&fed, day.numbers.nodes).0 != 0 {
@@ -172,7 +172,7 @@ fn period_broken<F: Fleet>(
 fn periods_broken<F: Fleet>(day: &Day, fleet: &F, marks: &[u8], outputs: &[i32]) -> Option<Refusal>
     requires ready { Ready (numbers_of day.now.numbers) (meaning_of (F.periods fleet.now) (F.size fleet.now) (F.node fleet.now) (F.verdict fleet.now) (F.floor fleet.now)) (record { marks = marks.now; outputs = outputs.now }) }
     requires kept { RowsKept (numbers_of day.now.numbers) (meaning_of (F.periods fleet.now) (F.size fleet.now) (F.node fleet.now) (F.verdict fleet.now) (F.floor fleet.now)) (record { marks = marks.now; outputs = outputs.now }) (F.size fleet.now) }
-    ensures { PeriodsTold (numbers_of day.now.numbers) (meaning_of (F.periods fleet.now) (F.size fleet.now) (F.node fleet.now) (F.verdict fleet.now) (F.floor fleet.now)) (record { marks = marks.entry.now; outputs = outputs.now }) result }
+    ensures { PeriodsTold (numbers_of day.now.numbers) (meaning_of (F.periods fleet.now) (F.size fleet.now) (F.node fleet.now) (F.verdict fleet.now) (F.floor fleet.now)) (record { marks = marks.now; outputs = outputs.now }) result }
 {
     for period in 0..day.numbers.periods {
         match period_broken(day, fleet, marks, outputs, period) {
@@ -184,17 +184,26 @@ fn periods_broken<F: Fleet>(day: &Day, fleet: &F, marks: &[u8], outputs: &[i32])
 }
 
 // What a lawful plan costs, or the first rule that is broken: the rows', and then the market's.
-fn judged<F: Fleet>(day: &Day, fleet: &F, plan: &Plan) -> Result<Grains, Refusal>
-    requires { Ready (numbers_of day.now.numbers) (meaning_of (F.periods fleet.now) (F.size fleet.now) (F.node fleet.now) (F.verdict fleet.now) (F.floor fleet.now)) (plan_of plan.now) }
-    ensures { Told (numbers_of day.now.numbers) (meaning_of (F.periods fleet.now) (F.size fleet.now) (F.node fleet.now) (F.verdict fleet.now) (F.floor fleet.now)) (plan_of plan.now) result }
+fn judged<F: Fleet>(day: &Day, fleet: &F, marks: &[u8], outputs: &[i32]) -> Result<Grains, Refusal>
+    requires { Ready (numbers_of day.now.numbers) (meaning_of (F.periods fleet.now) (F.size fleet.now) (F.node fleet.now) (F.verdict fleet.now) (F.floor fleet.now)) (record { marks = marks.now; outputs = outputs.now }) }
+    ensures answered { Answered (numbers_of day.now.numbers) (meaning_of (F.periods fleet.now) (F.size fleet.now) (F.node fleet.now) (F.verdict fleet.now) (F.floor fleet.now)) (record { marks = marks.now; outputs = outputs.now }) result }
+    ensures small { SmallTold result }
 {
-    match rows_cost(day, fleet, plan.marks, plan.outputs) {
-        Ok(cost) => match periods_broken(day, fleet, plan.marks, plan.outputs) {
+    match rows_cost(day, fleet, marks, outputs) {
+        Ok(cost) => match periods_broken(day, fleet, marks, outputs) {
             Some(broken) => Err(broken),
             None => Ok(cost),
         },
         Err(broken) => Err(broken),
     }
+}
+
+// The answer to a plan that has its lengths, for a fleet that fits the day.
+fn answer_of<F: Fleet>(day: &Day, fleet: &F, plan: &Plan) -> Result<Grains, Refusal>
+    requires { Ready (numbers_of day.now.numbers) (meaning_of (F.periods fleet.now) (F.size fleet.now) (F.node fleet.now) (F.verdict fleet.now) (F.floor fleet.now)) (plan_of plan.now) }
+    ensures { Told (numbers_of day.now.numbers) (meaning_of (F.periods fleet.now) (F.size fleet.now) (F.node fleet.now) (F.verdict fleet.now) (F.floor fleet.now)) (plan_of plan.now) result }
+{
+    judged(day, fleet, plan.marks, plan.outputs)
 }
 
 // The first no before the rules: the fleet does not fit the day, or the plan has not its lengths.
@@ -217,6 +226,6 @@ pub fn judge<F: Fleet>(day: &Day, fleet: &F, plan: &Plan) -> Result<Grains, Refu
 {
     match unready(day, fleet, plan) {
         Some(refusal) => Err(refusal),
-        None => judged(day, fleet, plan),
+        None => answer_of(day, fleet, plan),
     }
 }

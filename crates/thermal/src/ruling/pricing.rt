@@ -49,7 +49,7 @@ fn lead(prices: &[i32], period: usize) -> Fen
 fn value(net: &[i64], rise: &[i32], fall: &[i32], period: usize) -> NetPrice
     requires lengths { (period < length net.now) × ((length rise.now ≡ length net.now) × (length fall.now ≡ length net.now)) }
     requires prices { PricesFit (record { net = net.now; rise = rise.now; fall = fall.now }) }
-    ensures { result.0 ≡ value (record { net = net.entry.now; rise = rise.now; fall = fall.now }) period }
+    ensures { result.0 ≡ value (record { net = net.now; rise = rise.now; fall = fall.now }) period }
 {
     NetPrice(net[period]) - (lead(rise, period) - lead(fall, period)).net()
 }
@@ -214,9 +214,9 @@ fn weights(
     requires made { UnitMade unit.now }
     requires lengths { (period < length net.now) × ((length rise.now ≡ length net.now) × (length fall.now ≡ length net.now)) }
     requires prices { PricesFit (record { net = net.now; rise = rise.now; fall = fall.now }) }
-    ensures run { result.run.0 ≡ weight_in unit.now (record { net = net.entry.now; rise = rise.now; fall = fall.now }) period 1 1 }
-    ensures start { result.start.0 ≡ weight_in unit.now (record { net = net.entry.now; rise = rise.now; fall = fall.now }) period 0 1 }
-    ensures stop { result.stop.0 ≡ weight_in unit.now (record { net = net.entry.now; rise = rise.now; fall = fall.now }) period 1 0 }
+    ensures run { result.run.0 ≡ weight_in unit.now (record { net = net.now; rise = rise.now; fall = fall.now }) period 1 1 }
+    ensures start { result.start.0 ≡ weight_in unit.now (record { net = net.now; rise = rise.now; fall = fall.now }) period 0 1 }
+    ensures stop { result.stop.0 ≡ weight_in unit.now (record { net = net.now; rise = rise.now; fall = fall.now }) period 1 0 }
     ensures small { (Within 452400000000000 result.run.0) × ((Within 452400000000000 result.start.0) × (Within 452400000000000 result.stop.0)) }
 {
     let runs = running_weight(unit, value(net, rise, fall, period));
@@ -234,7 +234,7 @@ fn walk_back(unit: &ThermalUnit, net: &[i64], rise: &[i32], fall: &[i32]) -> Wal
     requires made { UnitMade unit.now }
     requires lengths { (length net.now ≤ 96) × ((length rise.now ≡ length net.now) × (length fall.now ≡ length net.now)) }
     requires prices { PricesFit (record { net = net.now; rise = rise.now; fall = fall.now }) }
-    ensures { Walked unit.now (record { net = net.entry.now; rise = rise.now; fall = fall.now }) (length net.entry.now) 0 result.run result.on result.off }
+    ensures { Walked unit.now (record { net = net.now; rise = rise.now; fall = fall.now }) (length net.now) 0 result.run result.on result.off }
 {
     let periods = net.len();
     let mut walk = Walk::ended();
@@ -293,7 +293,7 @@ fn floor_at(unit: &ThermalUnit, net: &[i64], rise: &[i32], fall: &[i32]) -> Grai
     requires day { (0 < length net.now) × (length net.now ≤ 96) }
     requires lengths { (length rise.now ≡ length net.now) × (length fall.now ≡ length net.now) }
     requires prices { PricesFit (record { net = net.now; rise = rise.now; fall = fall.now }) }
-    ensures { result.0 ≡ floor unit.now (record { net = net.entry.now; rise = rise.now; fall = fall.now }) (length net.entry.now) }
+    ensures { result.0 ≡ floor unit.now (record { net = net.now; rise = rise.now; fall = fall.now }) (length net.now) }
 {
     let walk = walk_back(unit, net, rise, fall);
     weight_of_day(unit, &walk, net.len(), Fen(rise[0]), Fen(fall[0]))

@@ -19,7 +19,7 @@ impl Thermal<'_> {
     fn ruled(&self, row: usize, marks: &[u8], outputs: &[i32]) -> Result<Grains, Broken>
         requires row { row < length self.now.units.now }
         requires lengths { (length marks.now ≡ self.now.periods) × (length outputs.now ≡ self.now.periods) }
-        ensures { Judged (rule (unit self.now.units.now row) (record { marks = marks.entry.now; outputs = outputs.now })) (cost_in (unit self.now.units.now row) (record { marks = marks.entry.now; outputs = outputs.now })) self.now.periods result }
+        ensures { Judged (rule (unit self.now.units.now row) (record { marks = marks.now; outputs = outputs.now })) (cost_in (unit self.now.units.now row) (record { marks = marks.now; outputs = outputs.now })) self.now.periods result }
     {
         judged(&self.units[row], marks, outputs)
     }
@@ -28,7 +28,7 @@ impl Thermal<'_> {
     fn priced(&self, row: usize, net: &[i64], rise: &[i32], fall: &[i32]) -> Result<Grains, Broken>
         requires row { row < length self.now.units.now }
         requires lengths { (length net.now ≡ self.now.periods) × ((length rise.now ≡ self.now.periods) × (length fall.now ≡ self.now.periods)) }
-        ensures { result ≡ priced_answer (record { net = net.entry.now; rise = rise.now; fall = fall.now }) ((units self.now.periods self.now.units.now).floor row (record { net = net.entry.now; rise = rise.now; fall = fall.now })) }
+        ensures { result ≡ priced_answer (record { net = net.now; rise = rise.now; fall = fall.now }) ((units self.now.periods self.now.units.now).floor row (record { net = net.now; rise = rise.now; fall = fall.now })) }
     {
         match price_fault(net, rise, fall) {
             Some(broken) => Err(broken),

@@ -1,7 +1,7 @@
 use Rattle.std.proofs.Common.{◌≡◌, ◌-ℤ◌, ◌≤ℤ◌, sym, ◌∙◌, subst, arith}
 use Rattle.std.proofs.lemmas.Int.{ints}
 use Rattle.market.specs.Scans.{Within}
-use Rattle.kinds.specs.Curves.{Made, net_cost, fall, highest}
+use Rattle.kinds.specs.Curves.{Made, net_cost, highest}
 use Rattle.kinds.specs.Leasts.{Least}
 use Rattle.kinds.proofs.Falls.{worth_within, net_cost_within, fall_within, lowered, lowered_within, lowered_start, lowered_more, lowered_end, lowered_least, lowered_is}
 use Rattle.kinds.proofs.CurveTests.{Asked, made_so, asked_so}

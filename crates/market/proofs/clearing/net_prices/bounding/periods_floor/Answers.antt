@@ -1,6 +1,6 @@
-use Rattle.std.proofs.Common.{◌≡◌, ◌+◌, pos, ◌+ℤ◌, ◌-ℤ◌, sym, ◌∙◌, subst, arith}
+use Rattle.std.proofs.Common.{◌≡◌, ◌+◌, ◌+ℤ◌, ◌-ℤ◌, sym, ◌∙◌, subst, arith}
 use Rattle.std.proofs.lemmas.Int.{ints}
-use Rattle.market.specs.Bounding.{prices_of, PeriodsFloored, loads_pay, limits_come}
+use Rattle.market.specs.Bounding.{prices_of, PeriodsFloored}
 use Rattle.market.specs.Clearing.{PriceSet}
 use Rattle.market.specs.Days.{Made, Numbers, numbers_of}
 use Rattle.market.proofs.FloorParts.{paid_small, come_small, periods_none, periods_more}
