@@ -3,7 +3,7 @@ use Rattle.std.proofs.Common.{◌≡◌, ℕ, zero, suc, ◌+◌, ◌<◌, ◌�
 use mathlib.Core.List.Memᴰ
 use mathlib.Core.List.{Memᴰ}
 use Rattle.std.specs.Int.{int_min}
-use Rattle.std.specs.List.{AllByRecursion as All}
+use Rattle.std.specs.List.{AllByRecursion}
 use Rattle.std.proofs.lemmas.Int.{ints, clamps}
 use Rattle.std.proofs.ByRecursion.{All-append, All-map}
 use Rattle.std.proofs.lemmas.Bool.{and_parts, and_from}
@@ -75,15 +75,15 @@ in_sequences none = Memᴰ.head refl
 in_sequences (more off rest) = Memᴰ.append_left _ (Memᴰ.map (λ ms. 0 ∷ ms) (in_sequences rest))
 in_sequences (more {n} on rest) = Memᴰ.append_right (map (λ ms. 0 ∷ ms) (sequences n)) (Memᴰ.map (λ ms. 1 ∷ ms) (in_sequences rest))
 
-all_marks : (n : ℕ) → All (Marks n) (sequences n)
+all_marks : (n : ℕ) → AllByRecursion (Marks n) (sequences n)
 all_marks zero = (none, tt)
 all_marks (suc n) = All-append (Marks (suc n)) _ _ (All-map (Marks (suc n)) (λ ms. 0 ∷ ms) (sequences n) (with_mark 0 off (sequences n) (all_marks n))) (All-map (Marks (suc n)) (λ ms. 1 ∷ ms) (sequences n) (with_mark 1 on (sequences n) (all_marks n)))
   where
-    with_mark : (m : ℕ) → Mark m → (xs : List (List ℕ)) → All (Marks n) xs → All (λ ms. Marks (suc n) (m ∷ ms)) xs
+    with_mark : (m : ℕ) → Mark m → (xs : List (List ℕ)) → AllByRecursion (Marks n) xs → AllByRecursion (λ ms. Marks (suc n) (m ∷ ms)) xs
     with_mark m k [] h = tt
     with_mark m k (x ∷ xs) h = (more k h.0, with_mark m k xs h.1)
 
-of_all : {X : Type 0} (P : X → Type 0) {y : X} {xs : List X} → Memᴰ y xs → All P xs → P y
+of_all : {X : Type 0} (P : X → Type 0) {y : X} {xs : List X} → Memᴰ y xs → AllByRecursion P xs → P y
 of_all P (Memᴰ.head e) h = subst P (sym e) h.0
 of_all P (Memᴰ.tail m) h = of_all P m h.1
 

@@ -1,6 +1,6 @@
 -- The specimen's day and fleet, and how a vendor's file is answered for them. Assumes nothing.
 use Rattle.std.specs.Prelude.{◌≡◌, ℕ, ◌<◌, ◌≤◌, List, [], ◌∷◌, length, pos, neg_ℤ, Ok, Err, codes, Result}
-use Rattle.std.specs.List.{AllByRecursion as All}
+use Rattle.std.specs.List.{AllByRecursion}
 use Rattle.measures.specs.Amounts.{grains}
 use Rattle.measures.specs.declared.Grains.{Grains}
 use Rattle.market.specs.declared.refusal.Refusal.{Refusal}
@@ -153,4 +153,4 @@ starred =
 
 -- each of them is answered so
 abbrev pub StarsFollow : Type 0
-StarsFollow = All (λ s. Tells s.file (Ok (record { plan = s.plan; prices = s.prices }))) starred
+StarsFollow = AllByRecursion (λ s. Tells s.file (Ok (record { plan = s.plan; prices = s.prices }))) starred

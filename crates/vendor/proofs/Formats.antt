@@ -2,7 +2,7 @@
 use Rattle.std.proofs.Common.{◌≡◌, ℕ, zero, suc, ◌<◌, ◌≤◌, eqb, List, [], ◌∷◌, ◌++◌, length, get_or, ℤ, pos, negsuc, neg_ℤ, ◌≤ℤ◌, Some, None, decimal, Option, sym, refl, ap, ◌∙◌, subst, append-nil, arith}
 use Rattle.std.specs.Str.Parse.{digits_value}
 use Rattle.std.specs.Fmt.{signed_decimal}
-use Rattle.std.specs.List.{AllByRecursion as All}
+use Rattle.std.specs.List.{AllByRecursion}
 use Rattle.std.proofs.lemmas.Fmt.{decimal-digits_value, digits_decimal, digits_value-decimal, length-decimal-le, decimal_nonempty, first_decimal}
 use Rattle.std.proofs.ByRecursion.{every_from_all}
 use Rattle.std.proofs.lemmas.Int.{ints}
@@ -41,7 +41,7 @@ front sep [] rest c = cond-true (eqb sep sep) _ _ (eq-eqb sep sep refl)
 front sep (b ∷ p) rest c = cond-false (eqb b sep) _ _ (ne_eqb b sep c.0) ∙ ap (onto b) (front sep p rest c.1)
 
 -- pieces put together are cut into the same pieces again
-again : (sep : ℕ) (ps : List (List ℕ)) → 0 < length ps → All (Lacks sep) ps → ps ≡ pieces sep (joined_by sep ps)
+again : (sep : ℕ) (ps : List (List ℕ)) → 0 < length ps → AllByRecursion (Lacks sep) ps → ps ≡ pieces sep (joined_by sep ps)
 again sep [] some c = absurd (omega arith)
 again sep (p ∷ []) some c = sym (cut_last sep p (λ k h. every_from_all _ p c.0 k 0 (omega arith) h))
 again sep (p ∷ q ∷ ps) some c = ap (λ r. p ∷ r) (again sep (q ∷ ps) (omega arith) c.1) ∙ sym (front sep p (joined_by sep (q ∷ ps)) c.0)
@@ -121,7 +121,7 @@ together ((b ∷ bs) ∷ []) = append-nil (b ∷ bs)
 together (p ∷ q ∷ ps) = ap (λ r. p ++ (10 ∷ r)) (together (q ∷ ps))
 
 -- pieces that lack byte 10 make rows that lack it, of which only the last can be unended, and then is not empty
-proper : (ps : List (List ℕ)) → All (Lacks 10) ps → RowsProper (lines_of ps)
+proper : (ps : List (List ℕ)) → AllByRecursion (Lacks 10) ps → RowsProper (lines_of ps)
 proper [] c = tt
 proper ([] ∷ []) c = tt
 proper ((b ∷ bs) ∷ []) c = (c.0, λ e. (refl, omega arith), tt)

@@ -1,7 +1,7 @@
 -- A row without fault names cells that are there. Assumes nothing.
 use Rattle.std.proofs.Common.{◌≡◌, ℕ, suc, ◌+◌, ◌-◌, ◌*◌, ◌<◌, ◌≤◌, Bool, true, false, leb, List, [], ◌∷◌, ◌++◌, length, ℤ, pos, negsuc, Some, None, Option, sym, refl, ◌∙◌, arith}
 use Rattle.std.specs.Option.{option_map}
-use Rattle.std.specs.List.{AllByRecursion as All}
+use Rattle.std.specs.List.{AllByRecursion}
 use Rattle.std.proofs.lemmas.Nat.{mul-add-lt}
 use Rattle.std.proofs.lemmas.Bool.{leb-true, ltb-true, eqb-true, and_parts}
 use Rattle.vendor.specs.declared.faults.RowFault.TheVariants.{Field}
@@ -22,7 +22,7 @@ all_yes [] rs all = (refl, all)
 all_yes ((true, e) ∷ qs) rs all = all_yes qs rs all
 all_yes ((false, e) ∷ qs) rs all = let z : ◌≡◌ {A = ℕ} 0 1 = cc in absurd (omega arith)
 
-pub each_yes : {F : Type 0} (qs : List (Bool × F)) → first_no qs ≡ None → All (λ q. q.0 ≡ true) qs
+pub each_yes : {F : Type 0} (qs : List (Bool × F)) → first_no qs ≡ None → AllByRecursion (λ q. q.0 ≡ true) qs
 each_yes [] all = tt
 each_yes ((true, e) ∷ qs) all = (refl, each_yes qs all)
 each_yes ((false, e) ∷ qs) all = let z : ◌≡◌ {A = ℕ} 0 1 = cc in absurd (omega arith)

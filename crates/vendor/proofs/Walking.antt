@@ -5,7 +5,7 @@ use Rattle.vendor.specs.declared.rows.Row.{Row}
 use Rattle.vendor.specs.declared.rows.Row.TheVariants as row
 use Rattle.vendor.specs.declared.faults.RowFault.{RowFault}
 use Rattle.vendor.specs.Files.{lines, lines_of}
-use Rattle.std.specs.List.{AllByRecursion as All}
+use Rattle.std.specs.List.{AllByRecursion}
 use Rattle.vendor.specs.Pieces.{pieces, onto, joined_by, Lacks}
 use Rattle.vendor.specs.Rows.{Line, fields, fields_of, first_no}
 use Rattle.vendor.specs.Walks.{fields_left, letter_questions, HandedOn}
@@ -93,7 +93,7 @@ module _ (file : List ℕ) (at n : ℕ) (later : List Line) (here : lines (drop 
         sound = ap (λ fs. first_no (letter_questions fs)) (sym same) ∙ kind_known r;
         parts = same;
         whole = ap (joined_by 59) same ∙ cut.whole;
-        clean = subst (All (Lacks 59)) (sym same) cut.clean;
+        clean = subst (AllByRecursion (Lacks 59)) (sym same) cut.clean;
       })
 
   pub refused : (e : RowFault) → first_no (letter_questions (fields_left file at (at + n))) ≡ Some e → HandedOn (lines (drop at file)) (Err e)

@@ -1,6 +1,6 @@
 -- What stands between separators. Assumes nothing.
 use Rattle.std.specs.Prelude.{◌≡◌, ℕ, ◌<◌, cond, List, [], ◌∷◌, ◌++◌, length, ◌==◌, ◌≢◌}
-use Rattle.std.specs.List.{AllByRecursion as All}
+use Rattle.std.specs.List.{AllByRecursion}
 
 -- a byte in front of the first piece
 abbrev pub onto : ℕ → List (List ℕ) → List (List ℕ)
@@ -20,13 +20,13 @@ joined_by sep (p ∷ q ∷ ps) = p ++ (sep ∷ joined_by sep (q ∷ ps))
 
 -- no byte of the text is the separator
 abbrev pub Lacks : ℕ → List ℕ → Type 0
-Lacks sep bs = All (λ b. b ≢ sep) bs
+Lacks sep bs = AllByRecursion (λ b. b ≢ sep) bs
 
 -- ps are the text cut at every separator: joined they are the text, and none holds a separator
 pub record CutAt (sep : ℕ) (bs : List ℕ) (ps : List (List ℕ)) : Type 0 where
   pub some : 0 < length ps
   pub whole : joined_by sep ps ≡ bs
-  pub clean : All (Lacks sep) ps
+  pub clean : AllByRecursion (Lacks sep) ps
 
 -- every text is cut in one way only, and `pieces` gives it
 abbrev pub PiecesAreWhatStandsBetween : Type 0

@@ -3,7 +3,7 @@ use Rattle.std.specs.Prelude.{◌≡◌, ℕ, ◌-◌, Bool, cond, List, [], ◌
 use Rattle.vendor.specs.declared.faults.RowFault.{RowFault}
 use Rattle.vendor.specs.declared.faults.RowFault.TheVariants.{UnknownLetter, FieldCount}
 use Rattle.vendor.specs.declared.reader.Reader.{Reader}
-use Rattle.std.specs.List.{AllByRecursion as All}
+use Rattle.std.specs.List.{AllByRecursion}
 use Rattle.vendor.specs.Pieces.{pieces, joined_by, Lacks}
 use Rattle.vendor.specs.declared.rows.Row.{Row}
 use Rattle.vendor.specs.Files.{lines}
@@ -40,7 +40,7 @@ pub record RowOf (l : Line) (row : Row) : Type 0 where
   pub sound : first_no (cut_questions l) ≡ None
   pub parts : fields_of row ≡ fields l
   pub whole : joined_by 59 (fields_of row) ≡ l.bytes
-  pub clean : All (Lacks 59) (fields_of row)
+  pub clean : AllByRecursion (Lacks 59) (fields_of row)
 
 abbrev pub RowHandedOn : Line → Option Row → Type 0
 RowHandedOn l None = ⊥
