@@ -15,7 +15,7 @@ use Rattle.market.specs.Totals.{total}
 use Rattle.market.proofs.Cells.{length_part_within, at_part, length_range, at_range, place_below}
 use Rattle.market.proofs.Ints.{times_assoc, times_within}
 use Rattle.market.proofs.NetPrices.{moderate_of, net_before_small}
-use Rattle.market.proofs.Pricing.{priced_no_fault, priced_answer_is}
+use Rattle.market.proofs.Pricing.{priced_no_fault}
 use Rattle.market.proofs.Totals.{total_more, total_within}
 use Rattle.market.proofs.Undercut.{priced, no_plan_undercuts}
 
@@ -155,7 +155,6 @@ module _ (d : Numbers) (m : Meaning) (s : PriceSet) (facts : Facts m) (made : Ma
   answer_is r h =
       let p = row_priced r h in
       cond-true _ _ _ (and_from _ _ (lt-ltb r m.size h) (and_from _ _ (eq-eqb _ _ p.nets) (and_from _ _ (eq-eqb _ _ p.rises) (eq-eqb _ _ p.falls))))
-      ∙ priced_answer_is (row_prices d m s r) (m.floor r (row_prices d m s r))
       ∙ ap (λ f. unless f (m.floor r (row_prices d m s r))) (sym (priced_no_fault m (row_prices d m s r) p))
 
   -- the part of the net prices that the fleet is handed is its node's

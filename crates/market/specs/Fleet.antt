@@ -1,7 +1,9 @@
 -- What a fleet means to the market, and the facts that it has to show. Assumes nothing.
-use Rattle.std.specs.Prelude.{◌≡◌, ℕ, ◌+◌, ◌<◌, ◌≤◌, cond, ◌&&◌, ◌⊎◌, List, length, ℤ, pos, ◌-ℤ◌, ◌*ℤ◌, neg_ℤ, ◌≤ℤ◌, Some, None, Ok, Err, Option, Result, ◌==◌, nat_lt}
+use Rattle.std.specs.Prelude.{◌≡◌, ℕ, ◌+◌, ◌<◌, ◌≤◌, Bool, cond, ◌&&◌, ◌⊎◌, List, length, ℤ, pos, ◌-ℤ◌, ◌*ℤ◌, neg_ℤ, ◌≤ℤ◌, Some, None, Ok, Err, Option, Result, ◌==◌, nat_lt}
 use Rattle.measures.specs.declared.Grains.{Grains}
 use Rattle.market.specs.declared.refusal.Broken.{Broken}
+use Rattle.market.specs.declared.row_prices.RowPrices.{RowPrices as HandedPrices}
+use Rattle.market.specs.declared.schedule.Schedule.{Schedule as HandedSchedule}
 use Rattle.market.specs.Scans.{at, Within, UpTo, first_out}
 use Rattle.market.specs.Totals.{total}
 
@@ -15,6 +17,12 @@ pub record RowPrices : Type 0 where
   pub net : List ℤ
   pub rise : List ℤ
   pub fall : List ℤ
+
+abbrev pub schedule_of : HandedSchedule → Schedule
+schedule_of s = record { marks = s.marks.now; outputs = s.outputs.now }
+
+abbrev pub row_prices_of : HandedPrices → RowPrices
+row_prices_of q = record { net = q.net.now; rise = q.rise.now; fall = q.fall.now }
 
 -- a verdict is the cost of a lawful schedule, or the first rule that it breaks with its period
 pub record Meaning : Type 0 where
@@ -68,6 +76,13 @@ pub record Same (m n : Meaning) : Type 0 where
 abbrev pub broken : ℕ → ℕ → Broken
 broken rule period = record { rule = rule; period = period }
 
+-- whether a row of a fleet of n rows has the schedule, or the prices, of t periods
+abbrev pub schedule_listed : ℕ → ℕ → ℕ → Schedule → Bool
+schedule_listed r n t s = nat_lt r n && (length s.marks == t && length s.outputs == t)
+
+abbrev pub prices_listed : ℕ → ℕ → ℕ → RowPrices → Bool
+prices_listed r n t q = nat_lt r n && (length q.net == t && (length q.rise == t && length q.fall == t))
+
 -- how a fleet answers, for every row: 8 with no period where the row is not below the size
 abbrev pub node_answer : Meaning → ℕ → Result ℕ Broken
 node_answer m r = cond (nat_lt r m.size) (Ok (m.node r)) (Err (broken 8 0))
@@ -75,20 +90,7 @@ node_answer m r = cond (nat_lt r m.size) (Ok (m.node r)) (Err (broken 8 0))
 -- for every row and schedule: 8 where the row is not below the size or a list has not T cells
 abbrev pub verdict_answer : Meaning → ℕ → Schedule → Result Grains Broken
 verdict_answer m r s =
-    cond (nat_lt r m.size && (length s.marks == m.periods && length s.outputs == m.periods)) (m.verdict r s) (Err (broken 8 0))
-
--- 19 with the period of the first price outside its limits: net prices, then prices of rises, then of falls
-abbrev pub price_fault : Option ℕ → Result Grains Broken → Result Grains Broken
-price_fault None next = next
-price_fault (Some t) next = Err (broken 19 (t + 1))
-
-abbrev pub priced_answer : RowPrices → Grains → Result Grains Broken
-priced_answer q floor =
-    price_fault (first_out (neg_ℤ (pos 17000000000)) (pos 17000000000) q.net) (price_fault (first_out (pos 0) (pos 1000000) q.rise) (price_fault (first_out (pos 0) (pos 1000000) q.fall) (Ok floor)))
-
-abbrev pub floor_answer : Meaning → ℕ → RowPrices → Result Grains Broken
-floor_answer m r q =
-    cond (nat_lt r m.size && (length q.net == m.periods && (length q.rise == m.periods && length q.fall == m.periods))) (priced_answer q (m.floor r q)) (Err (broken 8 0))
+    cond (schedule_listed r m.size m.periods s) (m.verdict r s) (Err (broken 8 0))
 
 -- 19 with the period of a price outside its limits, or else what is asked next
 abbrev pub fault_at : Option ℕ → Option Broken → Option Broken
@@ -100,7 +102,23 @@ abbrev pub row_fault : RowPrices → Option Broken
 row_fault q =
     fault_at (first_out (neg_ℤ (pos 17000000000)) (pos 17000000000) q.net) (fault_at (first_out (pos 0) (pos 1000000) q.rise) (fault_at (first_out (pos 0) (pos 1000000) q.fall) None))
 
--- a floor, unless there is a fault
-abbrev pub unless : Option Broken → Grains → Result Grains Broken
-unless None floor = Ok floor
-unless (Some e) floor = Err e
+-- yes, or 8 with no period
+abbrev pub asked : Bool → Result (Unit {0}) Broken
+asked b = cond b (Ok tt) (Err (broken 8 0))
+
+-- what comes next, unless there is a fault
+abbrev pub unless : {A : Type 0} → Option Broken → A → Result A Broken
+unless None next = Ok next
+unless (Some e) next = Err e
+
+-- how a fleet answers, for every row and price list: 8 as for a schedule, then 19 with the period of the first price outside its limits
+abbrev pub priced_answer : RowPrices → Grains → Result Grains Broken
+priced_answer q floor = unless (row_fault q) floor
+
+abbrev pub floor_answer : Meaning → ℕ → RowPrices → Result Grains Broken
+floor_answer m r q =
+    cond (prices_listed r m.size m.periods q) (priced_answer q (m.floor r q)) (Err (broken 8 0))
+
+-- what a fleet asks of a row's prices
+abbrev pub prices_asked : ℕ → ℕ → ℕ → RowPrices → Result (Unit {0}) Broken
+prices_asked r n t q = cond (prices_listed r n t q) (unless (row_fault q) tt) (Err (broken 8 0))

@@ -1,6 +1,6 @@
 -- Ranges, and the first cell of a table that is out of its range. Assumes nothing.
-use Rattle.std.specs.Prelude.{ℕ, zero, suc, ◌<◌, Bool, true, cond, ◌&&◌, List, [], ◌∷◌, length, ℤ, pos, neg_ℤ, ◌≤ℤ◌, Some, None, Option, int_le, slice_index_or}
-use Rattle.std.specs.Option.{option_map}
+use Rattle.std.specs.Prelude.{ℕ, zero, suc, ◌<◌, Bool, true, not, ◌&&◌, List, length, ℤ, pos, neg_ℤ, ◌≤ℤ◌, Some, None, Option, int_le, slice_index_or}
+use Rattle.std.specs.List.{position}
 
 -- x lies in low to high
 abbrev pub In : ℤ → ℤ → ℤ → Type 0
@@ -40,9 +40,8 @@ pub record FirstOut (low high : ℤ) (xs : List ℤ) (i : ℕ) : Type 0 where
   pub out : In low high (at xs i) → ⊥
 
 -- the same as a function
-unfoldable pub first_out : ℤ → ℤ → List ℤ → Option ℕ
-first_out low high [] = None
-first_out low high (x ∷ xs) = cond (in_test low high x) (option_map suc (first_out low high xs)) (Some 0)
+abbrev pub first_out : ℤ → ℤ → List ℤ → Option ℕ
+first_out low high xs = position (λ x. not (in_test low high x)) xs
 
 -- the first cell that does not lie in the range, or none
 abbrev pub Outside : ℤ → ℤ → List ℤ → Option ℕ → Type 0

@@ -2,10 +2,12 @@
 ghost use Rattle.std.specs.Prelude.{◌≡◌, ℕ, Result};
 ghost use Rattle.measures.specs.declared.Grains.{Grains};
 ghost use Rattle.market.specs.declared.refusal.Broken.{Broken};
-ghost use Rattle.market.specs.Fleet.{Facts, Schedule, RowPrices, meaning_of, node_answer, verdict_answer, floor_answer};
+ghost use Rattle.market.specs.Fleet.{Facts, Schedule as Meant, RowPrices as Priced, meaning_of, schedule_of, row_prices_of, node_answer, verdict_answer, floor_answer};
 ghost use Rattle.market.specs.Clearing.{FloorsStand};
 
 use crate::refusal::Broken;
+use crate::row_prices::RowPrices;
+use crate::schedule::Schedule;
 use measures::Grains;
 
 pub trait Fleet {
@@ -15,9 +17,9 @@ pub trait Fleet {
 
     ghost node: { Self → ℕ → ℕ };
 
-    ghost verdict: { Self → ℕ → Schedule → Result Grains Broken };
+    ghost verdict: { Self → ℕ → Meant → Result Grains Broken };
 
-    ghost floor: { Self → ℕ → RowPrices → Grains };
+    ghost floor: { Self → ℕ → Priced → Grains };
 
     fn periods(&self) -> usize
         ensures { result ≡ periods self.now };
@@ -30,12 +32,12 @@ pub trait Fleet {
         ensures { result ≡ node_answer (meaning_of (periods self.now) (size self.now) (node self.now) (verdict self.now) (floor self.now)) row };
 
     // The cost of a row's lawful schedule, or the first rule that it breaks.
-    fn verdict(&self, row: usize, marks: &[u8], outputs: &[i32]) -> Result<Grains, Broken>
-        ensures { result ≡ verdict_answer (meaning_of (periods self.now) (size self.now) (node self.now) (verdict self.now) (floor self.now)) row (record { marks = marks.now; outputs = outputs.now }) };
+    fn verdict(&self, row: usize, schedule: &Schedule) -> Result<Grains, Broken>
+        ensures { result ≡ verdict_answer (meaning_of (periods self.now) (size self.now) (node self.now) (verdict self.now) (floor self.now)) row (schedule_of schedule.now) };
 
-    // The row's floor at these prices: net prices in grains per tenth and period, and prices of rises and falls in fen.
-    fn floor(&self, row: usize, net: &[i64], rise: &[i32], fall: &[i32]) -> Result<Grains, Broken>
-        ensures { result ≡ floor_answer (meaning_of (periods self.now) (size self.now) (node self.now) (verdict self.now) (floor self.now)) row (record { net = net.now; rise = rise.now; fall = fall.now }) };
+    // The row's floor at these prices.
+    fn floor(&self, row: usize, prices: &RowPrices) -> Result<Grains, Broken>
+        ensures { result ≡ floor_answer (meaning_of (periods self.now) (size self.now) (node self.now) (verdict self.now) (floor self.now)) row (row_prices_of prices.now) };
 
     ghost facts: { (f : Self) → Facts (meaning_of (periods f) (size f) (node f) (verdict f) (floor f)) };
 }

@@ -1,9 +1,9 @@
 // The market: a day and its numbers, fleets by what they mean, plans judged and price sets bounded.
 #![tactic(auto)]
 
+mod asking;
 mod clearing;
 mod day;
-mod faults;
 mod fleet;
 mod label;
 mod lengths;
@@ -12,11 +12,13 @@ mod placing;
 mod plan;
 mod price_set;
 mod refusal;
+mod row_prices;
 mod scan;
+mod schedule;
 
+pub use asking::{prices_asked, row_asked, schedule_asked};
 pub use clearing::{bound, judge};
 pub use day::Day;
-pub use faults::price_fault;
 pub use fleet::{Fleet, floors_stand};
 pub use label::{Label, label_of};
 pub use lengths::{plan_lengths, price_lengths};
@@ -25,4 +27,6 @@ pub use placing::place;
 pub use plan::Plan;
 pub use price_set::PriceSet;
 pub use refusal::{Broken, Refusal};
+pub use row_prices::RowPrices;
 pub use scan::outside;
+pub use schedule::Schedule;

@@ -5,34 +5,35 @@
 ghost use Rattle.std.specs.Prelude.{◌≡◌, pos, ◌+ℤ◌, ◌-ℤ◌, ◌*ℤ◌, FitsSigned, int_lt};
 ghost use Rattle.std.specs.Int.{w32, w64};
 
+use std::fmt;
 use std::ops::{Add, Mul, Sub};
 
 // Power in tenths of a megawatt, positive when fed in.
-#[derive(Clone, Copy)]
+#[derive(Clone, Copy, PartialEq, Eq, PartialOrd, Ord)]
 pub struct Tenths(pub i32);
 
 // A price in fen (hundredths of a yuan) per megawatt-hour.
-#[derive(Clone, Copy)]
+#[derive(Clone, Copy, PartialEq, Eq, PartialOrd, Ord)]
 pub struct Fen(pub i32);
 
 // Money in whole yuan.
-#[derive(Clone, Copy)]
+#[derive(Clone, Copy, PartialEq, Eq, PartialOrd, Ord)]
 pub struct Yuan(pub u32);
 
 // Money in grains, 4,000,000 to the yuan.
-#[derive(Clone, Copy)]
+#[derive(Clone, Copy, PartialEq, Eq, PartialOrd, Ord)]
 pub struct Grains(pub i64);
 
 // A price in grains per tenth of a megawatt and period.
-#[derive(Clone, Copy)]
+#[derive(Clone, Copy, PartialEq, Eq, PartialOrd, Ord)]
 pub struct NetPrice(pub i64);
 
 // The share of the power fed in at a node that flows over a line, in thousandths.
-#[derive(Clone, Copy)]
+#[derive(Clone, Copy, PartialEq, Eq, PartialOrd, Ord)]
 pub struct Factor(pub i32);
 
 // Flow over a line, in thousandths of a tenth of a megawatt.
-#[derive(Clone, Copy)]
+#[derive(Clone, Copy, PartialEq, Eq, PartialOrd, Ord)]
 pub struct Flow(pub i64);
 
 const GRAINS_OF_YUAN: i64 = 4_000_000;
@@ -72,7 +73,7 @@ impl Flow {
     pub fn exceeds(self, other: Flow) -> bool
         ensures { result ≡ int_lt other.0 self.0 }
     {
-        other.0 < self.0
+        self > other
     }
 }
 
@@ -218,5 +219,11 @@ impl Sub<Grains> for Grains {
 
     fn sub(self, rhs: Grains) -> Grains {
         Grains(self.0 - rhs.0)
+    }
+}
+
+impl fmt::Display for Grains {
+    fn fmt<W: fmt::Write>(&self, f: &mut fmt::Formatter<W>) -> fmt::Result {
+        write!(f, "{}", self.0)
     }
 }

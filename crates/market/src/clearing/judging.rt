@@ -15,6 +15,7 @@ use crate::lengths::plan_lengths;
 use crate::placing::place;
 use crate::plan::Plan;
 use crate::refusal::Refusal;
+use crate::schedule::Schedule;
 use measures::{Flow, Grains, Tenths};
 
 // The rows' costs, or the first rule that a row breaks. Each row's part of the tables is handed to the fleet in place.
@@ -33,7 +34,11 @@ fn rows_cost<F: Fleet>(
     for row in 0..fleet.size() {
         let start = row * periods;
         let end = start + periods;
-        match fleet.verdict(row, &marks[start..end], &outputs[start..end]) {
+        let schedule = Schedule {
+            marks: &marks[start..end],
+            outputs: &outputs[start..end],
+        };
+        match fleet.verdict(row, &schedule) {
             Ok(more) => cost = cost + more,
             Err(broken) => {
                 return Err(Refusal {

@@ -12,6 +12,7 @@ use crate::lengths::price_lengths;
 use crate::placing::place;
 use crate::price_set::PriceSet;
 use crate::refusal::Refusal;
+use crate::row_prices::RowPrices;
 use crate::scan::outside;
 use measures::Grains;
 
@@ -114,9 +115,12 @@ fn rows_floor<F: Fleet>(day: &Day, fleet: &F, nets: &[i64], prices: &PriceSet) -
         };
         let here = node * periods;
         let start = row * periods;
-        let rise = &prices.rise[start..start + periods];
-        let fall = &prices.fall[start..start + periods];
-        match fleet.floor(row, &nets[here..here + periods], rise, fall) {
+        let prices = RowPrices {
+            net: &nets[here..here + periods],
+            rise: &prices.rise[start..start + periods],
+            fall: &prices.fall[start..start + periods],
+        };
+        match fleet.floor(row, &prices) {
             Ok(more) => floor = floor + more,
             Err(_) => return floor,
         }

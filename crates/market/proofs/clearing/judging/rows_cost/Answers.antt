@@ -10,11 +10,11 @@ use Rattle.market.proofs.clearing.judging.rows_cost.Goals.{In-loop-row, In-Ok}
 within : (g : given.Over) (c : In-loop-row g) → c.loop-row.row < g.F.Fleet.size c.args.fleet.now
 within g c = omega (arith, c.loop-row.invariant.1)
 
-pub slice_bounds-verdict-end : goal.slice_bounds-verdict-end
-slice_bounds-verdict-end g c = let e = part_ends c.loop-row.row c.args.day.now.numbers.periods _ (within g (goal.at.slice_bounds-verdict-end g c).In-loop-row) in omega (arith, c.requires.sized.marks)
+pub slice_bounds-schedule-end : goal.slice_bounds-schedule-end
+slice_bounds-schedule-end g c = let e = part_ends c.loop-row.row c.args.day.now.numbers.periods _ (within g (goal.at.slice_bounds-schedule-end g c).In-loop-row) in omega (arith, c.requires.sized.marks)
 
-pub slice_bounds-verdict-end-in-loop-row : goal.slice_bounds-verdict-end-in-loop-row
-slice_bounds-verdict-end-in-loop-row g c = let e = part_ends c.loop-row.row c.args.day.now.numbers.periods _ (within g (goal.at.slice_bounds-verdict-end-in-loop-row g c).In-loop-row) in omega (arith, c.requires.sized.outputs)
+pub slice_bounds-schedule-end-in-loop-row : goal.slice_bounds-schedule-end-in-loop-row
+slice_bounds-schedule-end-in-loop-row g c = let e = part_ends c.loop-row.row c.args.day.now.numbers.periods _ (within g (goal.at.slice_bounds-schedule-end-in-loop-row g c).In-loop-row) in omega (arith, c.requires.sized.outputs)
 
 -- the fleet's meaning
 abbrev meaning : (g : given.Over) → In-loop-row g → Meaning

@@ -47,20 +47,20 @@ loop-row-init g c = (rows_none _ _ _, c.size-row-end.ensures)
 pub overflow_mul-here : goal.overflow_mul-here
 overflow_mul-here g c = let h = here_within g c in omega arith
 
-pub slice_bounds-rise-end : goal.slice_bounds-rise-end
-slice_bounds-rise-end g c = let e = row_ends g (goal.at.slice_bounds-rise-end g c).In-Ok in omega (arith, c.requires.ready.sized.rise)
+pub slice_bounds-prices-end-in-loop-row : goal.slice_bounds-prices-end-in-loop-row
+slice_bounds-prices-end-in-loop-row g c = let e = row_ends g (goal.at.slice_bounds-prices-end-in-loop-row g c).In-Ok in omega (arith, c.requires.ready.sized.rise)
 
-pub slice_bounds-fall-end : goal.slice_bounds-fall-end
-slice_bounds-fall-end g c = let e = row_ends g (goal.at.slice_bounds-fall-end g c).In-Ok in omega (arith, c.requires.ready.sized.fall)
+pub slice_bounds-prices-end-in-loop-row-2 : goal.slice_bounds-prices-end-in-loop-row-2
+slice_bounds-prices-end-in-loop-row-2 g c = let e = row_ends g (goal.at.slice_bounds-prices-end-in-loop-row-2 g c).In-Ok in omega (arith, c.requires.ready.sized.fall)
 
-pub overflow_add-here : goal.overflow_add-here
-overflow_add-here g c = let h = here_within g (goal.at.overflow_add-here g c).In-Ok in omega arith
+pub overflow_add-prices : goal.overflow_add-prices
+overflow_add-prices g c = let h = here_within g (goal.at.overflow_add-prices g c).In-Ok in omega arith
 
 pub offset_bounds-nets-here : goal.offset_bounds-nets-here
 offset_bounds-nets-here g c = let h = here_within g (goal.at.offset_bounds-nets-here g c).In-Ok in omega arith
 
-pub slice_bounds-floor-end : goal.slice_bounds-floor-end
-slice_bounds-floor-end g c = let h = here_within g (goal.at.slice_bounds-floor-end g c).In-Ok in omega (arith, c.requires.netted.long)
+pub slice_bounds-prices-end : goal.slice_bounds-prices-end
+slice_bounds-prices-end g c = let h = here_within g (goal.at.slice_bounds-prices-end g c).In-Ok in omega (arith, c.requires.netted.long)
 
 -- one row more
 more : (g : given.Over) (c : In-Ok-floor g) → let i = (goal.at.add-floor-requires g c).In-Ok in RowsFloored (d g i) (m g i) (s g i) (c.loop-row.row + 1) (c.loop-row.floor.0 +ℤ c.in-Ok-floor.more.0)

@@ -1,0 +1,94 @@
+// What every fleet asks before it answers: whether it has the row, whether every list has a cell for each period, and whether every price is
+// within its limits.
+ghost use Rattle.std.specs.Prelude.{◌≡◌, pos, neg_ℤ, nat_lt};
+ghost use Rattle.market.specs.Fleet.{asked, unless, row_fault, schedule_of, row_prices_of, schedule_listed, prices_listed, prices_asked};
+ghost use Rattle.market.specs.Scans.{first_out};
+
+use crate::refusal::Broken;
+use crate::row_prices::RowPrices;
+use crate::scan::first_outside;
+use crate::schedule::Schedule;
+
+// No such row, or a list that has not a cell for each period.
+const LENGTHS: Broken = Broken { rule: 8, period: 0 };
+
+// The number of the question on prices.
+const LIMITS: u8 = 19;
+
+// The limits of a net price, in grains per tenth and period, and of the price of a rise or a fall, in fen.
+const MOST_NET: i64 = 17_000_000_000;
+
+const MOST_PRICE: i32 = 1_000_000;
+
+// 8 unless the row is below the size.
+pub fn row_asked(row: usize, size: usize) -> Result<(), Broken>
+    ensures { result ≡ asked (nat_lt row size) }
+{
+    if row < size { Ok(()) } else { Err(LENGTHS) }
+}
+
+// 8 unless the row is below the size and has a mark and an output for each period.
+pub fn schedule_asked(
+    row: usize,
+    size: usize,
+    periods: usize,
+    schedule: &Schedule,
+) -> Result<(), Broken>
+    ensures { result ≡ asked (schedule_listed row size periods (schedule_of schedule.now)) }
+{
+    row_asked(row, size)?;
+    if schedule.marks.len() == periods && schedule.outputs.len() == periods {
+        Ok(())
+    } else {
+        Err(LENGTHS)
+    }
+}
+
+// 8 unless the row is below the size and has prices for each period.
+fn listed(row: usize, size: usize, periods: usize, prices: &RowPrices) -> Result<(), Broken>
+    ensures { result ≡ asked (prices_listed row size periods (row_prices_of prices.now)) }
+{
+    row_asked(row, size)?;
+    if prices.net.len() == periods && prices.rise.len() == periods && prices.fall.len() == periods {
+        Ok(())
+    } else {
+        Err(LENGTHS)
+    }
+}
+
+// The first net price outside its limits.
+fn first_net(net: &[i64]) -> Option<usize>
+    ensures { result ≡ first_out (neg_ℤ (pos 17000000000)) (pos 17000000000) net.now }
+{
+    net.iter()
+        .position(|price| *price < -MOST_NET || *price > MOST_NET)
+}
+
+// 19 with the first period of a price outside its limits: net prices, then prices of rises, then of falls.
+fn within_limits(prices: &RowPrices) -> Result<(), Broken>
+    ensures { result ≡ unless (row_fault (row_prices_of prices.now)) tt }
+{
+    let first = first_net(prices.net)
+        .or_else(|| first_outside(prices.rise, 0, MOST_PRICE))
+        .or_else(|| first_outside(prices.fall, 0, MOST_PRICE));
+    match first {
+        Some(period) => Err(Broken {
+            rule: LIMITS,
+            period: period + 1,
+        }),
+        None => Ok(()),
+    }
+}
+
+// 8 unless the row is below the size and has prices for each period; then 19 with the period of the first that is outside its limits.
+pub fn prices_asked(
+    row: usize,
+    size: usize,
+    periods: usize,
+    prices: &RowPrices,
+) -> Result<(), Broken>
+    ensures { result ≡ prices_asked row size periods (row_prices_of prices.now) }
+{
+    listed(row, size, periods, prices)?;
+    within_limits(prices)
+}
