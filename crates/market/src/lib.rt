@@ -4,6 +4,7 @@
 mod asking;
 mod clearing;
 mod day;
+mod fault;
 mod fleet;
 mod label;
 mod lengths;
@@ -19,6 +20,7 @@ mod schedule;
 pub use asking::{prices_asked, row_asked, schedule_asked};
 pub use clearing::{bound, judge};
 pub use day::Day;
+pub use fault::Fault;
 pub use fleet::{Fleet, floors_stand};
 pub use label::{Label, label_of};
 pub use lengths::{plan_lengths, price_lengths};
