@@ -3,10 +3,11 @@ use Rattle.std.proofs.Common.{◌≡◌, ℕ, ◌+◌, ◌<◌, Ok, Err, Result,
 use Rattle.std.proofs.lemmas.Bool.{cases_order}
 use Rattle.measures.specs.Amounts.{grains}
 use Rattle.measures.specs.declared.Grains.{Grains}
-use Rattle.market.specs.declared.refusal.Broken.{Broken}
+use Rattle.market.specs.declared.broken.Broken.{Broken}
 use Rattle.market.specs.declared.refusal.Refusal.{Refusal}
+use Rattle.market.specs.declared.refusal.Refusal.TheVariants.{Node, Row, Balance, Upper, Lower}
 use Rattle.market.specs.Clearing.{Plan, RowsKept, Balanced, LinesKept, Cleared, UnderUpper, OverLower, BreaksFirst, row_rule, balance, upper_limit, lower_limit, row}
-use Rattle.market.specs.Days.{Numbers, refusal}
+use Rattle.market.specs.Days.{Numbers}
 use Rattle.market.specs.Fleet.{Meaning}
 use Rattle.market.specs.Judging.{Refused, unplaced, lengths, broken, Answered, SmallTold, Told}
 use Rattle.market.specs.Placing.{Unplaced, sizes}
@@ -19,15 +20,15 @@ unplaced_alone d m _ _ (sizes off) (sizes out) = refl
 unplaced_alone d m _ _ (sizes off) (Placing.row r fit out) = absurd (off fit)
 unplaced_alone d m _ _ (Placing.row r fit out) (sizes off) = absurd (off fit)
 unplaced_alone d m _ _ (Placing.row r fit out) (Placing.row k fits off) =
-    ⊎_elim (λ e. ap (λ r. refusal 6 r 0) e)
+    ⊎_elim (λ e. ap (λ r. Node r) e)
     (⊎_elim (λ l. absurd (omega (arith, off.before r l, out.out))) (λ l. absurd (omega (arith, out.before k l, off.out)))) (cases_order r k)
 
 module _ (d : Numbers) (m : Meaning) (p : Plan) where
   -- the first rule that is broken in period t
   data BreaksIn (t : ℕ) : Refusal → Type 0 where
-    unbalanced : (Balanced d m p t → ⊥) → BreaksIn t (refusal 16 0 (t + 1))
-    over : (l : ℕ) → l < d.lines → Balanced d m p t → LinesKept d m p t l → (UnderUpper d m p t l → ⊥) → BreaksIn t (refusal 17 l (t + 1))
-    under : (l : ℕ) → l < d.lines → Balanced d m p t → LinesKept d m p t l → UnderUpper d m p t l → (OverLower d m p t l → ⊥) → BreaksIn t (refusal 18 l (t + 1))
+    unbalanced : (Balanced d m p t → ⊥) → BreaksIn t (Balance (t + 1))
+    over : (l : ℕ) → l < d.lines → Balanced d m p t → LinesKept d m p t l → (UnderUpper d m p t l → ⊥) → BreaksIn t (Upper l (t + 1))
+    under : (l : ℕ) → l < d.lines → Balanced d m p t → LinesKept d m p t l → UnderUpper d m p t l → (OverLower d m p t l → ⊥) → BreaksIn t (Lower l (t + 1))
 
   -- a period that breaks a rule is not clear
   not_clear : (t : ℕ) (e : Refusal) → BreaksIn t e → Balanced d m p t → LinesKept d m p t d.lines → ⊥
@@ -43,7 +44,7 @@ module _ (d : Numbers) (m : Meaning) (p : Plan) where
   in_alone t _ _ (over l lt even kept off) (unbalanced out) = absurd (out even)
   in_alone t _ _ (under l lt even kept up off) (unbalanced out) = absurd (out even)
   in_alone t _ _ (over l lt even kept off) (over k kt also held out) =
-      ⊎_elim (λ e. ap (λ l. refusal 17 l (t + 1)) e) (⊎_elim (λ s. absurd (off (held l s).0)) (λ s. absurd (out (kept k s).0))) (cases_order l k)
+      ⊎_elim (λ e. ap (λ l. Upper l (t + 1)) e) (⊎_elim (λ s. absurd (off (held l s).0)) (λ s. absurd (out (kept k s).0))) (cases_order l k)
   in_alone t _ _ (over l lt even kept off) (under k kt also held up out) =
       ⊎_elim (λ e. absurd (off (subst_under (sym e) up))) (⊎_elim (λ s. absurd (off (held l s).0)) (λ s. absurd (out (kept k s).1))) (cases_order l k)
     where
@@ -55,11 +56,11 @@ module _ (d : Numbers) (m : Meaning) (p : Plan) where
       subst_under : {i j : ℕ} → i ≡ j → UnderUpper d m p t i → UnderUpper d m p t j
       subst_under e h = rw (sym e) h
   in_alone t _ _ (under l lt even kept up off) (under k kt also held up' out) =
-      ⊎_elim (λ e. ap (λ l. refusal 18 l (t + 1)) e) (⊎_elim (λ s. absurd (off (held l s).1)) (λ s. absurd (out (kept k s).1))) (cases_order l k)
+      ⊎_elim (λ e. ap (λ l. Lower l (t + 1)) e) (⊎_elim (λ s. absurd (off (held l s).1)) (λ s. absurd (out (kept k s).1))) (cases_order l k)
 
   -- where the first broken rule stands: in a row, or in a period
   data BreaksAt : Refusal → Type 0 where
-    in_row : (r : ℕ) (e : Broken) → r < m.size → RowsKept d m p r → m.verdict r (row d p r) ≡ Err e → BreaksAt (refusal e.rule r e.period)
+    in_row : (r : ℕ) (e : Broken) → r < m.size → RowsKept d m p r → m.verdict r (row d p r) ≡ Err e → BreaksAt (Row r e)
     in_period : (t : ℕ) (e : Refusal) → t < d.periods → RowsKept d m p m.size → Cleared d m p t → BreaksIn t e → BreaksAt e
 
   breaks_at : (e : Refusal) → BreaksFirst d m p e → BreaksAt e
@@ -71,11 +72,11 @@ module _ (d : Numbers) (m : Meaning) (p : Plan) where
   in_period_alone : (s t : ℕ) (e f : Refusal) → s ≡ t → BreaksIn s e → BreaksIn t f → e ≡ f
   in_period_alone s t e f same a b = in_alone t e f (rw (sym same) a) b
 
-  same_row : (r k : ℕ) (e f : Broken) → r ≡ k → m.verdict r (row d p r) ≡ Err e → m.verdict k (row d p k) ≡ Err f → refusal e.rule r e.period ≡ refusal f.rule k f.period
+  same_row : (r k : ℕ) (e f : Broken) → r ≡ k → m.verdict r (row d p r) ≡ Err e → m.verdict k (row d p k) ≡ Err f → Row r e ≡ Row k f
   same_row r k e f i is so =
       let both : m.verdict r (row d p r) ≡ Err f = ap (λ r. m.verdict r (row d p r)) i ∙ so in
       let one : e ≡ f = cc in
-      λ j. refusal (one j).rule (i j) (one j).period
+      λ j. Row (i j) (one j)
 
   at_alone : (e f : Refusal) → BreaksAt e → BreaksAt f → e ≡ f
   at_alone _ _ (in_row r e lt kept is) (in_row k f kt held so) =

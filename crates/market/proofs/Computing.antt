@@ -5,10 +5,11 @@ use Rattle.std.proofs.lemmas.Int.{ints}
 use Rattle.std.proofs.lemmas.Bool.{and_parts, and_from, both_ways}
 use Rattle.measures.specs.Amounts.{grains}
 use Rattle.measures.specs.declared.Grains.{Grains}
-use Rattle.market.specs.declared.refusal.Broken.{Broken}
+use Rattle.market.specs.declared.broken.Broken.{Broken}
 use Rattle.market.specs.declared.refusal.Refusal.{Refusal}
+use Rattle.market.specs.declared.refusal.Refusal.TheVariants.{Row, Balance, Upper, Lower}
 use Rattle.market.specs.Clearing.{Plan, RowsKept, Balanced, LinesKept, Cleared, BreaksFirst, balance, upper_limit, lower_limit, row, supply, demand, flow, UnderUpper, OverLower}
-use Rattle.market.specs.Days.{Numbers, refusal}
+use Rattle.market.specs.Days.{Numbers}
 use Rattle.market.specs.Fleet.{Meaning, Facts}
 use Rattle.market.specs.Judging.{Ready, Answered, broken}
 use Rattle.market.specs.Scans.{at}
@@ -21,7 +22,7 @@ module _ (d : Numbers) (m : Meaning) (p : Plan) where
   abbrev with_row : Result ℤ Refusal → Result Grains Broken → ℕ → Result ℤ Refusal
   with_row (Err e) v r = Err e
   with_row (Ok c) (Ok x) r = Ok (c +ℤ x.0)
-  with_row (Ok c) (Err e) r = Err (refusal e.rule r e.period)
+  with_row (Ok c) (Err e) r = Err (Row r e)
 
   abbrev rows : ℕ → Result ℤ Refusal
   rows zero = Ok (pos 0)
@@ -33,7 +34,7 @@ module _ (d : Numbers) (m : Meaning) (p : Plan) where
   first_of (Some e) next = Some e
 
   abbrev line : ℕ → ℕ → Option Refusal
-  line t l = cond (le_z (flow d m p l t) (pos 1000 *ℤ at d.upper l)) (cond (le_z (pos 1000 *ℤ at d.lower l) (flow d m p l t)) None (Some (refusal 18 l (t + 1)))) (Some (refusal 17 l (t + 1)))
+  line t l = cond (le_z (flow d m p l t) (pos 1000 *ℤ at d.upper l)) (cond (le_z (pos 1000 *ℤ at d.lower l) (flow d m p l t)) None (Some (Lower l (t + 1)))) (Some (Upper l (t + 1)))
 
   abbrev lines : ℕ → ℕ → Option Refusal
   lines t zero = None
@@ -43,7 +44,7 @@ module _ (d : Numbers) (m : Meaning) (p : Plan) where
   same_test x y = le_z x y && le_z y x
 
   abbrev period : ℕ → Option Refusal
-  period t = cond (same_test (supply d m p t) (demand d t)) (lines t d.lines) (Some (refusal 16 0 (t + 1)))
+  period t = cond (same_test (supply d m p t) (demand d t)) (lines t d.lines) (Some (Balance (t + 1)))
 
   abbrev periods : ℕ → Option Refusal
   periods zero = None
@@ -86,7 +87,7 @@ module _ (d : Numbers) (m : Meaning) (p : Plan) where
     not_le x y e h = both_ways (le_z x y) e ((decides_le x y).1 h)
 
     line_by : (t l : ℕ) (u w : Bool) → t < d.periods → l < d.lines → le_z (flow d m p l t) (pos 1000 *ℤ at d.upper l) ≡ u → le_z (pos 1000 *ℤ at d.lower l) (flow d m p l t) ≡ w
-        → LineTells t l (cond u (cond w None (Some (refusal 18 l (t + 1)))) (Some (refusal 17 l (t + 1))))
+        → LineTells t l (cond u (cond w None (Some (Lower l (t + 1)))) (Some (Upper l (t + 1))))
     line_by t l false w on lt a b = λ kept even cleared rows. upper_limit t l on lt rows cleared even kept (not_le _ _ a)
     line_by t l true false on lt a b = λ kept even cleared rows. lower_limit t l on lt rows cleared even kept ((decides_le _ _).0 a) (not_le _ _ b)
     line_by t l true true on lt a b = ((decides_le _ _).0 a, (decides_le _ _).0 b)
@@ -111,7 +112,7 @@ module _ (d : Numbers) (m : Meaning) (p : Plan) where
     alike : (x y : ℤ) → x ≡ y → same_test x y ≡ true
     alike x y e = and_from _ _ ((decides_le x y).1 (omega (arith, ints))) ((decides_le y x).1 (omega (arith, ints)))
 
-    period_by : (t : ℕ) (b : Bool) (r : Option Refusal) → t < d.periods → same_test (supply d m p t) (demand d t) ≡ b → LinesTell t d.lines r → PeriodTells t (cond b r (Some (refusal 16 0 (t + 1))))
+    period_by : (t : ℕ) (b : Bool) (r : Option Refusal) → t < d.periods → same_test (supply d m p t) (demand d t) ≡ b → LinesTell t d.lines r → PeriodTells t (cond b r (Some (Balance (t + 1))))
     period_by t false r on e h = λ cleared rows. balance t on rows cleared (λ even. both_ways _ e (alike _ _ even))
     period_by t true None on e h = let q = and_parts _ _ e in (same _ _ q.0 q.1, h)
     period_by t true (Some f) on e h = let q = and_parts _ _ e in h (same _ _ q.0 q.1)

@@ -5,10 +5,11 @@ use Rattle.std.proofs.lemmas.List.{length-map, ext_get_or}
 use Rattle.std.proofs.lemmas.Int.{ints}
 use Rattle.std.proofs.lemmas.Bool.{cond-true, and_from, lt-ltb, eq-eqb}
 use Rattle.measures.specs.declared.Grains.{Grains}
-use Rattle.market.specs.declared.refusal.Broken.{Broken}
+use Rattle.market.specs.declared.refusal.Refusal.TheVariants.{Price}
+use Rattle.market.specs.declared.broken.Broken.{Broken}
 use Rattle.market.specs.Bounding.{Over, over, LinesPriced, Ready, Netted, pays, comes, loads_pay, limits_come, PeriodsFloored, RowsFloored, Floored, Bounded}
 use Rattle.market.specs.Clearing.{PriceSet, InRange, part, range, load, net_price, row_prices}
-use Rattle.market.specs.Days.{Numbers, Made, refusal}
+use Rattle.market.specs.Days.{Numbers, Made}
 use Rattle.market.specs.Fleet.{Meaning, Facts, Priced, unless, floor_answer}
 use Rattle.market.specs.Scans.{at, Within, UpTo, FirstOut}
 use Rattle.market.specs.Totals.{total}
@@ -20,7 +21,7 @@ use Rattle.market.proofs.Totals.{total_more, total_within}
 use Rattle.market.proofs.Undercut.{priced, no_plan_undercuts}
 
 -- a cell by its item and its period
-pub over_at : (n : ℕ) (xs : List ℤ) (i : ℕ) → 1 ≤ n → FirstOut (pos 0) (pos 1000000) xs i → Over n xs (refusal 19 (i / n) (i % n + 1))
+pub over_at : (n : ℕ) (xs : List ℤ) (i : ℕ) → 1 ≤ n → FirstOut (pos 0) (pos 1000000) xs i → Over n xs (Price (i / n) (i % n + 1))
 over_at n xs i some out = over (i / n) (i % n) (mod-lt i some) (subst (FirstOut _ _ xs) (sym (div-add-mod' i n)) out)
 
 module _ (d : Numbers) (m : Meaning) (s : PriceSet) where

@@ -1,5 +1,5 @@
 -- The ring laws of ℤ that `omega (arith, ints)` does not reach, and how products keep the order. Assumes nothing.
-use Rattle.std.proofs.Common.{◌≡◌, ℕ, suc, ◌+◌, ◌*◌, ℤ, pos, negsuc, ◌+ℤ◌, ◌-ℤ◌, ◌*ℤ◌, neg_ℤ, ◌≤ℤ◌, sym, ap, ◌∙◌, mul-le-mul_left, arith}
+use Rattle.std.proofs.Common.{◌≡◌, ℕ, suc, ◌+◌, ◌*◌, ◌≤◌, w32, w64, to_z, of_z, ℤ, pos, negsuc, ◌+ℤ◌, ◌-ℤ◌, ◌*ℤ◌, neg_ℤ, ◌≤ℤ◌, sym, ap, ◌∙◌, mul-le-mul_left, arith}
 use lib.IntN.{*ℤ_comm}
 use borrow.Author.Differences.{up, down, sum_is_lem, neg_is, product_is, same_in, le_out}
 use Rattle.std.proofs.lemmas.Nat.{mul-le}
@@ -45,3 +45,10 @@ times_within (pos i) (pos j) m n h k = omega (arith, ints, mul-le i j m n (omega
 times_within (pos i) (negsuc j) m n h k = omega (arith, ints, mul-le i (suc j) m n (omega (arith, ints)) (omega (arith, ints)))
 times_within (negsuc i) (pos j) m n h k = omega (arith, ints, mul-le (suc i) j m n (omega (arith, ints)) (omega (arith, ints)))
 times_within (negsuc i) (negsuc j) m n h k = omega (arith, ints, mul-le (suc i) (suc j) m n (omega (arith, ints)) (omega (arith, ints)))
+
+-- a number that is within its limit is read as it was written
+pub reread : (limit : ℕ) (x : ℤ) → limit ≤ 2147483647 → Within limit x → to_z w32 (of_z w32 x) ≡ x
+reread limit x few h = omega (arith, ints)
+
+pub reread_long : (limit : ℕ) (x : ℤ) → limit ≤ 9223372036854775807 → Within limit x → to_z w64 (of_z w64 x) ≡ x
+reread_long limit x few h = omega (arith, ints)

@@ -1,8 +1,9 @@
 -- A day's questions, by tests and by what they mean. Assumes nothing.
 use Rattle.std.proofs.Common.{◌≡◌, ℕ, ◌+◌, ◌/◌, ◌%◌, true, false, ◌&&◌, leb, length, pos, neg_ℤ, Decides, sym, subst, mod-lt, div-add-mod'}
 use Rattle.std.proofs.lemmas.Bool.{and_parts, and_from, leb-true, le-leb, eqb-true, eq-eqb, both_ways}
+use Rattle.market.specs.declared.day_fault.DayFault.TheVariants.{Shape, Lengths, Load, Factor}
 use Rattle.market.specs.Days as Days
-use Rattle.market.specs.Days.{Fits, Numbers, ShapeFits, LengthsFit, Made, UpToLoads, UpToFactors, UpToOrder, Refused, load, factor, refusal, shape_test, lengths_test, made_test}
+use Rattle.market.specs.Days.{Fits, Numbers, ShapeFits, LengthsFit, Made, UpToLoads, UpToFactors, UpToOrder, Refused, load, factor, shape_test, lengths_test, made_test}
 use Rattle.market.specs.Scans.{FirstOut, Ordered}
 use Rattle.market.proofs.Scanning.{decides_all, decides_ordered}
 
@@ -54,19 +55,19 @@ module _ (d : Numbers) where
       ((decides_ordered d.lower d.upper d.lines).1 m.ordered))))))
 
   -- a cell by its item and its place in the item
-  pub refused_load : UpToLoads d → (i : ℕ) → FirstOut (neg_ℤ (pos 40000)) (pos 40000) d.loads i → Refused d (refusal 3 (i / d.periods) (i % d.periods + 1))
+  pub refused_load : UpToLoads d → (i : ℕ) → FirstOut (neg_ℤ (pos 40000)) (pos 40000) d.loads i → Refused d (Load (i / d.periods) (i % d.periods + 1))
   refused_load h i out =
       load h (i / d.periods) (i % d.periods) (mod-lt i h.shape.periods.0) (subst (FirstOut _ _ d.loads) (sym (div-add-mod' i d.periods)) out)
 
-  pub refused_factor : UpToFactors d → (i : ℕ) → FirstOut (neg_ℤ (pos 1000)) (pos 1000) d.factors i → Refused d (refusal 3 (i / d.nodes) 0)
+  pub refused_factor : UpToFactors d → (i : ℕ) → FirstOut (neg_ℤ (pos 1000)) (pos 1000) d.factors i → Refused d (Factor (i / d.nodes))
   refused_factor h i out =
       factor h (i / d.nodes) (i % d.nodes) (mod-lt i h.before.shape.nodes.0) (subst (FirstOut _ _ d.factors) (sym (div-add-mod' i d.nodes)) out)
 
   -- the questions answered so far, one after another
-  pub refused_shape : false ≡ shape_test d → Refused d (refusal 1 0 0)
+  pub refused_shape : false ≡ shape_test d → Refused d Shape
   refused_shape e = Days.shape (λ h. both_ways (shape_test d) (sym e) (decides_shape.1 h))
 
-  pub refused_lengths : true ≡ shape_test d → false ≡ lengths_test d → Refused d (refusal 2 0 0)
+  pub refused_lengths : true ≡ shape_test d → false ≡ lengths_test d → Refused d Lengths
   refused_lengths e f = Days.lengths (decides_shape.0 (sym e)) (λ h. both_ways (lengths_test d) (sym f) (decides_lengths.1 h))
 
   pub to_loads : true ≡ shape_test d → true ≡ lengths_test d → UpToLoads d

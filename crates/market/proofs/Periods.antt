@@ -1,5 +1,5 @@
 -- A period's market rules, told by what the nodes feed in. Assumes nothing.
-use Rattle.std.proofs.Common.{◌≡◌, ℕ, ◌*◌, ◌<◌, ◌≤◌, List, ℤ, pos, ◌-ℤ◌, ◌*ℤ◌, ◌≤ℤ◌, Some, None, Option, sym, ap, ◌∙◌, subst, arith, w32, to_z, of_z}
+use Rattle.std.proofs.Common.{◌≡◌, ℕ, ◌*◌, ◌<◌, ◌≤◌, List, ℤ, pos, ◌-ℤ◌, ◌*ℤ◌, ◌≤ℤ◌, Ok, Err, Result, sym, ap, ◌∙◌, subst, arith, w32, to_z, of_z}
 use Rattle.std.proofs.lemmas.Int.{ints}
 use Rattle.market.specs.declared.refusal.Refusal.{Refusal}
 use Rattle.market.specs.Clearing.{Plan, RowsKept, Balanced, LinesKept, Cleared, BreaksFirst, upper_limit, lower_limit, factor, supply, demand, flow}
@@ -11,13 +11,6 @@ use Rattle.market.specs.Scans.{at, Within}
 use Rattle.market.specs.Totals.{total}
 use Rattle.market.proofs.Injections.{flow_gathered, balance_gathered}
 use Rattle.market.proofs.Totals.{total_cong}
-
--- a sum over at most 16 nodes fits its cell
-sum_fits : (n : ℕ) (x : ℤ) → n ≤ 16 → Within (n * 680000) x → to_z w32 (of_z w32 x) ≡ x
-sum_fits n x few h = omega (arith, ints)
-
-pub sum_zero : (n : ℕ) (x : ℤ) → n ≤ 16 → Within (n * 680000) x → of_z w32 x ≡ 0 → x ≡ pos 0
-sum_zero n x few h e = sym (sum_fits n x few h) ∙ ap (to_z w32) e
 
 apart : (x y z : ℤ) → z ≡ x -ℤ y → x ≡ y → z ≡ pos 0
 apart x y z e f = omega (arith, ints)
@@ -48,6 +41,6 @@ module _ (d : Numbers) (m : Meaning) (p : Plan) (t : ℕ) (fed : List ℤ) (node
     line_told _ (under l lt kept up broken) cleared =
         lower_limit t l on lt rows cleared even (lines_kept l kept) (subst (λ x. x ≤ℤ (pos 1000 *ℤ at d.upper l)) (flow_fed l) up) (λ u. broken (subst (λ x. (pos 1000 *ℤ at d.lower l) ≤ℤ x) (sym (flow_fed l)) u))
 
-    pub period_told : (r : Option Refusal) → LinesTold d (flow_of d fed) t r → PeriodTold d m p t r
-    period_told None kept = (even, lines_kept d.lines kept)
-    period_told (Some e) broken = line_told e broken
+    pub period_told : (r : Result (Unit {0}) Refusal) → LinesTold d (flow_of d fed) t r → PeriodTold d m p t r
+    period_told (Ok u) kept = (even, lines_kept d.lines kept)
+    period_told (Err e) broken = line_told e broken

@@ -1,13 +1,14 @@
 -- One answer alone tells what is so of a price set, and fleets that no question tells apart get the same. Assumes nothing.
-use Rattle.std.proofs.Common.{◌≡◌, ℕ, ◌+◌, ◌*◌, ◌/◌, ◌%◌, ◌<◌, List, map, ℤ, pos, ◌+ℤ◌, ◌-ℤ◌, ◌≤ℤ◌, Some, None, Ok, Err, Option, Result, sym, refl, ap, ◌∙◌, subst, ⊎_elim, MatchOption}
+use Rattle.std.proofs.Common.{◌≡◌, ℕ, ◌+◌, ◌*◌, ◌/◌, ◌%◌, ◌<◌, List, map, ℤ, pos, ◌+ℤ◌, ◌-ℤ◌, ◌≤ℤ◌, Some, None, Ok, Err, Option, Result, sym, refl, ap, ◌∙◌, subst, ⊎_elim}
 use Rattle.std.proofs.lemmas.Nat.{div-mul-add, mod-mul-add}
 use Rattle.std.proofs.lemmas.Bool.{cases_order}
 use Rattle.measures.specs.Amounts.{grains}
 use Rattle.measures.specs.declared.Grains.{Grains}
 use Rattle.market.specs.declared.refusal.Refusal.{Refusal}
+use Rattle.market.specs.declared.refusal.Refusal.TheVariants.{Price}
 use Rattle.market.specs.Bounding.{Over, over, OutOfRange, system, upper, lower, rise, fall, PricesFit, Refused, unplaced, lengths, range, Answered, Told, Ready, RangesTold, loads_pay, limits_come}
 use Rattle.market.specs.Clearing.{Plan, PriceSet, Placed, Sized, InRange, Lawful, cost, floor, range as periods-from, net_price, row_prices, part}
-use Rattle.market.specs.Days.{Numbers, Made, refusal}
+use Rattle.market.specs.Days.{Numbers, Made}
 use Rattle.market.specs.Fleet.{Meaning, Facts, Same}
 use Rattle.market.specs.Judging as judging
 use Rattle.market.specs.Scans.{FirstOut}
@@ -29,14 +30,14 @@ over_alone n xs _ _ (over i s on a) (over j t to b) =
     let same = first_alone (pos 0) (pos 1000000) xs (i * n + s) (j * n + t) a b in
     let item : i ≡ j = sym (div-mul-add i n s on) ∙ ap (λ k. k / n) same ∙ div-mul-add j n t to in
     let period : s ≡ t = sym (mod-mul-add i n s on) ∙ ap (λ k. k % n) same ∙ mod-mul-add j n t to in
-    λ k. refusal 19 (item k) (period k + 1)
+    λ k. Price (item k) (period k + 1)
 
 -- a table with a price out of its limits is not within them
 not_fit : (n : ℕ) (xs : List ℤ) (e : Refusal) → Over n xs e → PricesFit xs → ⊥
 not_fit n xs _ (over i t on a) fit = a.out (fit (i * n + t) a.within)
 
 out_alone : (n : ℕ) (s : PriceSet) (e f : Refusal) → OutOfRange n s e → OutOfRange n s f → e ≡ f
-out_alone n s _ _ (system t a) (system k b) = ap (λ t. refusal 19 0 (t + 1)) (first_alone _ _ s.system t k a b)
+out_alone n s _ _ (system t a) (system k b) = ap (λ t. Price 0 (t + 1)) (first_alone _ _ s.system t k a b)
 out_alone n s _ _ (system t a) (upper f b h) = absurd (a.out (b t a.within))
 out_alone n s _ _ (system t a) (lower f b c h) = absurd (a.out (b t a.within))
 out_alone n s _ _ (system t a) (rise f b c g h) = absurd (a.out (b t a.within))
@@ -131,8 +132,3 @@ module _ (d : Numbers) (m n : Meaning) (same : Same m n) (s : PriceSet) where
 
 pub told : (d : Numbers) (m : Meaning) (s : PriceSet) → Facts m → Made d → (a : Result Grains Refusal) → Answered d m s a → Told d m s a
 told d m s facts made a h = record { answer = h; alone = λ b k. answered_alone d m s a b h k; alike = λ n same. answered_alike d m n same s facts made a h }
-
--- what the last question tells, once the others have been answered yes
-pub ranged : (d : Numbers) (m : Meaning) (s : PriceSet) → Facts m → Made d → Placed d m → Sized d m s → (r : Option Refusal) → RangesTold d.periods s r → MatchOption r (Ready d m s) (λ e. Told d m s (Err e))
-ranged d m s facts made placed sized None fit = record { placed = placed; sized = sized; fit = fit }
-ranged d m s facts made placed sized (Some e) out = told d m s facts made (Err e) (rejected d m s e (range e placed sized out))

@@ -1,16 +1,17 @@
 -- What is refused is not lawful. Assumes nothing.
 use Rattle.std.proofs.Common.{◌≡◌, ℕ, true, is_ok, Ok, Err, Result, sym, subst, arith}
 use Rattle.measures.specs.declared.Grains.{Grains}
-use Rattle.market.specs.declared.refusal.Broken.{Broken}
+use Rattle.market.specs.declared.broken.Broken.{Broken}
 use Rattle.market.specs.declared.refusal.Refusal.{Refusal}
+use Rattle.market.specs.declared.refusal.Refusal.TheVariants.{Lengths}
 use Rattle.market.specs.Clearing.{Plan, Placed, Lawful, BreaksFirst, row_rule, balance, upper_limit, lower_limit}
-use Rattle.market.specs.Days.{Numbers, refusal}
+use Rattle.market.specs.Days.{Numbers}
 use Rattle.market.specs.Fleet.{Meaning}
 use Rattle.market.specs.Judging.{Refused, Rejected, unplaced, lengths, broken}
 use Rattle.market.specs.Placing.{Unplaced, sizes, row}
 
 -- a refusal that is 8, told as such
-pub eight : (told : Refusal → Type 0) {e : Refusal} → told (refusal 8 0 0) → e ≡ refusal 8 0 0 → told e
+pub eight : (told : Refusal → Type 0) {e : Refusal} → told Lengths → e ≡ Lengths → told e
 eight told h is = subst told (sym is) h
 
 pub not_both : (v : Result Grains Broken) (e : Broken) → is_ok v ≡ true → v ≡ Err e → ⊥

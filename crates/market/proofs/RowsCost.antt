@@ -3,10 +3,11 @@ use Rattle.std.proofs.Common.{◌≡◌, ℕ, suc, ◌+◌, ◌-◌, ◌*◌, �
 use Rattle.std.proofs.lemmas.Int.{ints}
 use Rattle.std.proofs.lemmas.Bool.{cond-true, and_from, lt-ltb, eq-eqb}
 use Rattle.measures.specs.declared.Grains.{Grains}
-use Rattle.market.specs.declared.refusal.Broken.{Broken}
+use Rattle.market.specs.declared.refusal.Refusal.TheVariants.{Row}
+use Rattle.market.specs.declared.broken.Broken.{Broken}
 use Rattle.market.specs.Clearing.{Plan, row, amount, RowsKept, BreaksFirst, row_rule}
-use Rattle.market.specs.Days.{Numbers, refusal}
-use Rattle.market.specs.Fleet.{Meaning, Facts, Fits, verdict_answer}
+use Rattle.market.specs.Days.{Numbers}
+use Rattle.market.specs.Fleet.{Meaning, Facts, Fits, Schedule, verdict_answer}
 use Rattle.market.specs.Judging.{Ready, RowsJudged, SmallTold}
 use Rattle.market.specs.Scans.{Within}
 use Rattle.market.specs.Totals.{total}
@@ -42,15 +43,11 @@ module _ (d : Numbers) (m : Meaning) (p : Plan) (facts : Facts m) (ready : Ready
       let f = row_fits r h in
       cond-true _ _ _ (and_from _ _ (lt-ltb r m.size h) (and_from _ _ (eq-eqb _ _ f.marks) (eq-eqb _ _ f.outputs)))
 
-  -- the part that the fleet is handed is row r
-  pub told : (r : ℕ) (v : Result Grains Broken) → r < m.size
-      → v ≡ verdict_answer m r (record { marks = take (r * d.periods + d.periods - r * d.periods) (drop (r * d.periods) p.marks); outputs = take (r * d.periods + d.periods - r * d.periods) (drop (r * d.periods) p.outputs) })
-      → m.verdict r (row d p r) ≡ v
-  told r v h e =
-      let size : d.periods ≡ r * d.periods + d.periods - r * d.periods = omega arith in
-      sym (answer_is r h) ∙ ap (λ n. verdict_answer m r (record { marks = take n (drop (r * d.periods) p.marks); outputs = take n (drop (r * d.periods) p.outputs) })) size ∙ sym e
+  -- the schedule that the fleet is handed is row r
+  pub told : (r : ℕ) (s : Schedule) (v : Result Grains Broken) → r < m.size → s ≡ row d p r → v ≡ verdict_answer m r s → m.verdict r (row d p r) ≡ v
+  told r s v h e is = sym (answer_is r h) ∙ ap (verdict_answer m r) (sym e) ∙ sym is
 
-  pub rows_broken : (r : ℕ) (c : ℤ) (e : Broken) → r < m.size → RowsSoFar d m p r c → m.verdict r (row d p r) ≡ Err e → BreaksFirst d m p (refusal e.rule r e.period)
+  pub rows_broken : (r : ℕ) (c : ℤ) (e : Broken) → r < m.size → RowsSoFar d m p r c → m.verdict r (row d p r) ≡ Err e → BreaksFirst d m p (Row r e)
   rows_broken r c e h so is = row_rule r e h so.kept is
 
   pub rows_more : (r : ℕ) (c : ℤ) (more : Grains) → r < m.size → RowsSoFar d m p r c → m.verdict r (row d p r) ≡ Ok more → RowsSoFar d m p (r + 1) (c +ℤ more.0)

@@ -1,10 +1,11 @@
 -- A price set bounded: its questions in order, and the floor that it gives. Assumes nothing.
-use Rattle.std.specs.Prelude.{◌≡◌, ℕ, ◌+◌, ◌*◌, ◌/◌, ◌%◌, ◌<◌, List, length, ℤ, pos, ◌-ℤ◌, ◌*ℤ◌, neg_ℤ, ◌≤ℤ◌, Some, None, Ok, Err, Option, Result}
+use Rattle.std.specs.Prelude.{◌≡◌, ℕ, ◌+◌, ◌*◌, ◌/◌, ◌%◌, ◌<◌, List, length, ℤ, pos, ◌-ℤ◌, ◌*ℤ◌, neg_ℤ, ◌≤ℤ◌, Ok, Err, Result}
 use Rattle.measures.specs.declared.Grains.{Grains}
 use Rattle.market.specs.declared.price_set.PriceSet.{PriceSet as Handed}
 use Rattle.market.specs.declared.refusal.Refusal.{Refusal}
+use Rattle.market.specs.declared.refusal.Refusal.TheVariants.{Lengths, Price}
 use Rattle.market.specs.Clearing.{Plan, PriceSet, Placed, Sized, InRange, Lawful, cost, floor, net_price, row_prices, load}
-use Rattle.market.specs.Days.{Numbers, refusal}
+use Rattle.market.specs.Days.{Numbers}
 use Rattle.market.specs.Fleet.{Meaning, Same}
 use Rattle.market.specs.Placing.{Unplaced}
 use Rattle.market.specs.Scans.{at, InBefore, FirstOut, Within}
@@ -23,15 +24,15 @@ PricesFit xs = InBefore (pos 0) (pos 1000000) xs (length xs)
 
 -- of a table of n periods an item, e tells the first price that is out of its limits
 pub data Over (n : ℕ) (xs : List ℤ) : Refusal → Type 0 where
-  over : (item t : ℕ) → t < n → FirstOut (pos 0) (pos 1000000) xs (item * n + t) → Over n xs (refusal 19 item (t + 1))
+  over : (item t : ℕ) → t < n → FirstOut (pos 0) (pos 1000000) xs (item * n + t) → Over n xs (Price item (t + 1))
 
-abbrev pub OverTold : ℕ → List ℤ → Option Refusal → Type 0
-OverTold n xs None = PricesFit xs
-OverTold n xs (Some e) = Over n xs e
+abbrev pub OverTold : ℕ → List ℤ → Result (Unit {0}) Refusal → Type 0
+OverTold n xs (Ok u) = PricesFit xs
+OverTold n xs (Err e) = Over n xs e
 
 -- the first price of a day of n periods that is out of its limits: 19, with its line or row and its period
 pub data OutOfRange (n : ℕ) (s : PriceSet) : Refusal → Type 0 where
-  system : (t : ℕ) → FirstOut (neg_ℤ (pos 1000000)) (pos 1000000) s.system t → OutOfRange n s (refusal 19 0 (t + 1))
+  system : (t : ℕ) → FirstOut (neg_ℤ (pos 1000000)) (pos 1000000) s.system t → OutOfRange n s (Price 0 (t + 1))
   upper : (e : Refusal) → SystemFits s → Over n s.upper e → OutOfRange n s e
   lower : (e : Refusal) → SystemFits s → PricesFit s.upper → Over n s.lower e → OutOfRange n s e
   rise : (e : Refusal) → SystemFits s → PricesFit s.upper → PricesFit s.lower → Over n s.rise e → OutOfRange n s e
@@ -45,14 +46,14 @@ pub record AllFit (s : PriceSet) : Type 0 where
   pub rise : PricesFit s.rise
   pub fall : PricesFit s.fall
 
-abbrev pub RangesTold : ℕ → PriceSet → Option Refusal → Type 0
-RangesTold n s None = AllFit s
-RangesTold n s (Some e) = OutOfRange n s e
+abbrev pub RangesTold : ℕ → PriceSet → Result (Unit {0}) Refusal → Type 0
+RangesTold n s (Ok u) = AllFit s
+RangesTold n s (Err e) = OutOfRange n s e
 
 -- the first no: the fleet does not fit the day, or a list has not its length, or a price is out of its limits
 pub data Refused (d : Numbers) (m : Meaning) (s : PriceSet) : Refusal → Type 0 where
   unplaced : (e : Refusal) → Unplaced d m e → Refused d m s e
-  lengths : Placed d m → (Sized d m s → ⊥) → Refused d m s (refusal 8 0 0)
+  lengths : Placed d m → (Sized d m s → ⊥) → Refused d m s Lengths
   range : (e : Refusal) → Placed d m → Sized d m s → OutOfRange d.periods s e → Refused d m s e
 
 -- told rightly: the fleet does not fit, or a length is wrong, or a price is out of its limits

@@ -1,9 +1,10 @@
 -- When a plan is lawful, what it costs, and the floor that a price set gives. Assumes nothing.
 use Rattle.std.specs.Prelude.{◌≡◌, ℕ, zero, suc, ◌+◌, ◌*◌, ◌<◌, ◌≤◌, true, List, [], ◌∷◌, map, length, take, drop, ℤ, pos, ◌+ℤ◌, ◌-ℤ◌, ◌*ℤ◌, ◌≤ℤ◌, is_ok, Ok, Err, Result}
 use Rattle.measures.specs.declared.Grains.{Grains}
-use Rattle.market.specs.declared.refusal.Broken.{Broken}
+use Rattle.market.specs.declared.broken.Broken.{Broken}
 use Rattle.market.specs.declared.refusal.Refusal.{Refusal}
-use Rattle.market.specs.Days.{Numbers, refusal}
+use Rattle.market.specs.declared.refusal.Refusal.TheVariants.{Row, Balance, Upper, Lower}
+use Rattle.market.specs.Days.{Numbers}
 use Rattle.market.specs.Fleet.{Meaning, Facts, Schedule, RowPrices}
 use Rattle.market.specs.Scans.{at, Within, UpTo}
 use Rattle.market.specs.Totals.{total}
@@ -95,10 +96,10 @@ module _ (d : Numbers) (m : Meaning) where
 
   -- e tells the first rule that the plan breaks
   pub data BreaksFirst (p : Plan) : Refusal → Type 0 where
-    row_rule : (r : ℕ) (e : Broken) → r < m.size → RowsKept p r → m.verdict r (row d p r) ≡ Err e → BreaksFirst p (refusal e.rule r e.period)
-    balance : (t : ℕ) → t < d.periods → RowsKept p m.size → Cleared p t → (Balanced p t → ⊥) → BreaksFirst p (refusal 16 0 (t + 1))
-    upper_limit : (t l : ℕ) → t < d.periods → l < d.lines → RowsKept p m.size → Cleared p t → Balanced p t → LinesKept p t l → (UnderUpper p t l → ⊥) → BreaksFirst p (refusal 17 l (t + 1))
-    lower_limit : (t l : ℕ) → t < d.periods → l < d.lines → RowsKept p m.size → Cleared p t → Balanced p t → LinesKept p t l → UnderUpper p t l → (OverLower p t l → ⊥) → BreaksFirst p (refusal 18 l (t + 1))
+    row_rule : (r : ℕ) (e : Broken) → r < m.size → RowsKept p r → m.verdict r (row d p r) ≡ Err e → BreaksFirst p (Row r e)
+    balance : (t : ℕ) → t < d.periods → RowsKept p m.size → Cleared p t → (Balanced p t → ⊥) → BreaksFirst p (Balance (t + 1))
+    upper_limit : (t l : ℕ) → t < d.periods → l < d.lines → RowsKept p m.size → Cleared p t → Balanced p t → LinesKept p t l → (UnderUpper p t l → ⊥) → BreaksFirst p (Upper l (t + 1))
+    lower_limit : (t l : ℕ) → t < d.periods → l < d.lines → RowsKept p m.size → Cleared p t → Balanced p t → LinesKept p t l → UnderUpper p t l → (OverLower p t l → ⊥) → BreaksFirst p (Lower l (t + 1))
 
   abbrev pub row_prices : PriceSet → ℕ → RowPrices
   row_prices s r = record { net = map (net_price d s (m.node r)) (range 0 d.periods); rise = part d.periods r s.rise; fall = part d.periods r s.fall }

@@ -1,7 +1,8 @@
 -- The numbers of a day, and when they are those of one. Assumes nothing.
 use Rattle.std.specs.Prelude.{◌≡◌, ℕ, ◌+◌, ◌*◌, ◌<◌, ◌≤◌, Bool, true, ◌&&◌, List, [], ◌∷◌, length, ℤ, pos, neg_ℤ, ◌==◌, int_le, nat_le}
+use Rattle.market.specs.declared.day_fault.DayFault.{DayFault}
+use Rattle.market.specs.declared.day_fault.DayFault.TheVariants.{Shape, Lengths, Load, Factor, Lower, Upper, Crossed}
 use Rattle.market.specs.declared.numbers.DayNumbers.{DayNumbers}
-use Rattle.market.specs.declared.refusal.Refusal.{Refusal}
 use Rattle.market.specs.Scans.{at, InBefore, FirstOut, Ordered, FirstCrossed, in_all, all_below}
 
 -- periods T, nodes K and lines L; loads by node and period, factors by line and node, a lower and an upper limit for each line
@@ -70,9 +71,6 @@ pub record Fits (d : Numbers) : Type 0 where
 abbrev pub smallest_numbers : Numbers
 smallest_numbers = record { periods = 1; nodes = 1; lines = 0; loads = pos 0 ∷ []; factors = []; lower = []; upper = [] }
 
-abbrev pub refusal : ℕ → ℕ → ℕ → Refusal
-refusal number place period = record { number = number; place = place; period = period }
-
 -- what making a day asks of ranges, in order
 pub record UpToLoads (d : Numbers) : Type 0 where
   pub shape : ShapeFits d
@@ -94,12 +92,12 @@ pub record UpToOrder (d : Numbers) : Type 0 where
   pub before : UpToUpper d
   pub upper : LimitsFit d.upper (length d.upper)
 
--- the first no, where the numbers are not those of a day: its number, its place and its period
-pub data Refused (d : Numbers) : Refusal → Type 0 where
-  shape : (ShapeFits d → ⊥) → Refused d (refusal 1 0 0)
-  lengths : ShapeFits d → (LengthsFit d → ⊥) → Refused d (refusal 2 0 0)
-  load : UpToLoads d → (k t : ℕ) → t < d.periods → FirstOut (neg_ℤ (pos 40000)) (pos 40000) d.loads (k * d.periods + t) → Refused d (refusal 3 k (t + 1))
-  factor : UpToFactors d → (l k : ℕ) → k < d.nodes → FirstOut (neg_ℤ (pos 1000)) (pos 1000) d.factors (l * d.nodes + k) → Refused d (refusal 3 l 0)
-  lower_limit : UpToLower d → (l : ℕ) → FirstOut (neg_ℤ (pos 200000)) (pos 200000) d.lower l → Refused d (refusal 3 l 0)
-  upper_limit : UpToUpper d → (l : ℕ) → FirstOut (neg_ℤ (pos 200000)) (pos 200000) d.upper l → Refused d (refusal 3 l 0)
-  crossed : UpToOrder d → (l : ℕ) → FirstCrossed d.lower d.upper l → Refused d (refusal 3 l 0)
+-- the first no, where the numbers are not those of a day
+pub data Refused (d : Numbers) : DayFault → Type 0 where
+  shape : (ShapeFits d → ⊥) → Refused d Shape
+  lengths : ShapeFits d → (LengthsFit d → ⊥) → Refused d Lengths
+  load : UpToLoads d → (k t : ℕ) → t < d.periods → FirstOut (neg_ℤ (pos 40000)) (pos 40000) d.loads (k * d.periods + t) → Refused d (Load k (t + 1))
+  factor : UpToFactors d → (l k : ℕ) → k < d.nodes → FirstOut (neg_ℤ (pos 1000)) (pos 1000) d.factors (l * d.nodes + k) → Refused d (Factor l)
+  lower_limit : UpToLower d → (l : ℕ) → FirstOut (neg_ℤ (pos 200000)) (pos 200000) d.lower l → Refused d (Lower l)
+  upper_limit : UpToUpper d → (l : ℕ) → FirstOut (neg_ℤ (pos 200000)) (pos 200000) d.upper l → Refused d (Upper l)
+  crossed : UpToOrder d → (l : ℕ) → FirstCrossed d.lower d.upper l → Refused d (Crossed l)

@@ -1,7 +1,7 @@
 -- What a fleet means to the market, and the facts that it has to show. Assumes nothing.
 use Rattle.std.specs.Prelude.{◌≡◌, ℕ, ◌+◌, ◌<◌, ◌≤◌, Bool, cond, ◌&&◌, ◌⊎◌, List, length, ℤ, pos, ◌-ℤ◌, ◌*ℤ◌, neg_ℤ, ◌≤ℤ◌, Some, None, Ok, Err, Option, Result, ◌==◌, nat_lt}
 use Rattle.measures.specs.declared.Grains.{Grains}
-use Rattle.market.specs.declared.refusal.Broken.{Broken}
+use Rattle.market.specs.declared.broken.Broken.{Broken}
 use Rattle.market.specs.declared.row_prices.RowPrices.{RowPrices as HandedPrices}
 use Rattle.market.specs.declared.schedule.Schedule.{Schedule as HandedSchedule}
 use Rattle.market.specs.Scans.{at, Within, UpTo, first_out}

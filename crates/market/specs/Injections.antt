@@ -1,8 +1,9 @@
 -- What each node feeds in, rows and loads together. Assumes nothing.
-use Rattle.std.specs.Prelude.{◌≡◌, ℕ, ◌+◌, ◌<◌, cond, List, ℤ, pos, ◌-ℤ◌, ◌*ℤ◌, ◌≤ℤ◌, Some, None, Option, ◌==◌}
+use Rattle.std.specs.Prelude.{◌≡◌, ℕ, ◌+◌, ◌<◌, cond, List, ℤ, pos, ◌-ℤ◌, ◌*ℤ◌, ◌≤ℤ◌, Ok, Err, Result, ◌==◌}
 use Rattle.market.specs.declared.refusal.Refusal.{Refusal}
+use Rattle.market.specs.declared.refusal.Refusal.TheVariants.{Upper, Lower}
 use Rattle.market.specs.Clearing.{Plan, output, load, factor}
-use Rattle.market.specs.Days.{Numbers, refusal}
+use Rattle.market.specs.Days.{Numbers}
 use Rattle.market.specs.Fleet.{Meaning}
 use Rattle.market.specs.Scans.{at}
 use Rattle.market.specs.Totals.{total}
@@ -33,9 +34,9 @@ abbrev pub KeptBefore : Numbers → (ℕ → ℤ) → ℕ → Type 0
 KeptBefore d f l = (k : ℕ) → k < l → (f k ≤ℤ (pos 1000 *ℤ at d.upper k)) × ((pos 1000 *ℤ at d.lower k) ≤ℤ f k)
 
 pub data LineBroken (d : Numbers) (f : ℕ → ℤ) (t : ℕ) : Refusal → Type 0 where
-  over : (l : ℕ) → l < d.lines → KeptBefore d f l → (f l ≤ℤ (pos 1000 *ℤ at d.upper l) → ⊥) → LineBroken d f t (refusal 17 l (t + 1))
-  under : (l : ℕ) → l < d.lines → KeptBefore d f l → f l ≤ℤ (pos 1000 *ℤ at d.upper l) → ((pos 1000 *ℤ at d.lower l) ≤ℤ f l → ⊥) → LineBroken d f t (refusal 18 l (t + 1))
+  over : (l : ℕ) → l < d.lines → KeptBefore d f l → (f l ≤ℤ (pos 1000 *ℤ at d.upper l) → ⊥) → LineBroken d f t (Upper l (t + 1))
+  under : (l : ℕ) → l < d.lines → KeptBefore d f l → f l ≤ℤ (pos 1000 *ℤ at d.upper l) → ((pos 1000 *ℤ at d.lower l) ≤ℤ f l → ⊥) → LineBroken d f t (Lower l (t + 1))
 
-abbrev pub LinesTold : Numbers → (ℕ → ℤ) → ℕ → Option Refusal → Type 0
-LinesTold d f t None = KeptBefore d f d.lines
-LinesTold d f t (Some e) = LineBroken d f t e
+abbrev pub LinesTold : Numbers → (ℕ → ℤ) → ℕ → Result (Unit {0}) Refusal → Type 0
+LinesTold d f t (Ok u) = KeptBefore d f d.lines
+LinesTold d f t (Err e) = LineBroken d f t e

@@ -1,10 +1,11 @@
 -- When a fleet fits and a plan is judged: its rows, and then its periods. Assumes nothing.
-use Rattle.std.specs.Prelude.{◌≡◌, ℕ, ◌*◌, length, Some, None, Ok, Err, Option, Result}
+use Rattle.std.specs.Prelude.{◌≡◌, ℕ, ◌*◌, length, Ok, Err, Result}
 use Rattle.measures.specs.declared.Grains.{Grains}
 use Rattle.market.specs.declared.plan.Plan.{Plan as Handed}
 use Rattle.market.specs.declared.refusal.Refusal.{Refusal}
+use Rattle.market.specs.declared.refusal.Refusal.TheVariants.{Lengths}
 use Rattle.market.specs.Clearing.{Plan, Placed, RowsKept, Balanced, LinesKept, Cleared, Lawful, BreaksFirst, cost}
-use Rattle.market.specs.Days.{Numbers, refusal}
+use Rattle.market.specs.Days.{Numbers}
 use Rattle.market.specs.Fleet.{Meaning, Same}
 use Rattle.market.specs.Placing.{Unplaced}
 use Rattle.market.specs.Scans.{Within}
@@ -28,19 +29,19 @@ RowsJudged d m p (Ok c) = RowsKept d m p m.size × (c.0 ≡ cost d m p)
 RowsJudged d m p (Err e) = BreaksFirst d m p e
 
 -- a period keeps the market rules, or e tells the first that is broken in it, where all before it are kept
-abbrev pub PeriodTold : Numbers → (m : Meaning) → Plan → ℕ → Option Refusal → Type 0
-PeriodTold d m p t None = Balanced d m p t × LinesKept d m p t d.lines
-PeriodTold d m p t (Some e) = Cleared d m p t → BreaksFirst d m p e
+abbrev pub PeriodTold : Numbers → (m : Meaning) → Plan → ℕ → Result (Unit {0}) Refusal → Type 0
+PeriodTold d m p t (Ok u) = Balanced d m p t × LinesKept d m p t d.lines
+PeriodTold d m p t (Err e) = Cleared d m p t → BreaksFirst d m p e
 
 -- every period keeps the market rules, or e tells the first rule that the plan breaks
-abbrev pub PeriodsTold : Numbers → (m : Meaning) → Plan → Option Refusal → Type 0
-PeriodsTold d m p None = Cleared d m p d.periods
-PeriodsTold d m p (Some e) = BreaksFirst d m p e
+abbrev pub PeriodsTold : Numbers → (m : Meaning) → Plan → Result (Unit {0}) Refusal → Type 0
+PeriodsTold d m p (Ok u) = Cleared d m p d.periods
+PeriodsTold d m p (Err e) = BreaksFirst d m p e
 
 -- the first no: the fleet does not fit the day, or the plan has not its lengths, or it breaks a rule
 pub data Refused (d : Numbers) (m : Meaning) (p : Plan) : Refusal → Type 0 where
   unplaced : (e : Refusal) → Unplaced d m e → Refused d m p e
-  lengths : Placed d m → (PlanSized d m p → ⊥) → Refused d m p (refusal 8 0 0)
+  lengths : Placed d m → (PlanSized d m p → ⊥) → Refused d m p Lengths
   broken : (e : Refusal) → Ready d m p → BreaksFirst d m p e → Refused d m p e
 
 -- told rightly: the fleet does not fit, or the plan is not lawful

@@ -1,9 +1,11 @@
 pub mod Scans
 pub mod Days
+pub mod Faults
 pub mod Labels
 pub mod Totals
 pub mod Fleet
 pub mod Clearing
+pub mod Meanings
 pub mod Access
 pub mod Placing
 pub mod Lengths

@@ -1,7 +1,8 @@
 -- Whether a fleet fits a day, and the first no where it does not. Assumes nothing.
 use Rattle.std.specs.Prelude.{◌≡◌, ℕ, ◌<◌, ◌≤◌, Some, None, Option}
 use Rattle.market.specs.declared.refusal.Refusal.{Refusal}
-use Rattle.market.specs.Days.{Numbers, refusal}
+use Rattle.market.specs.declared.refusal.Refusal.TheVariants.{Misfit, Node}
+use Rattle.market.specs.Days.{Numbers}
 use Rattle.market.specs.Fleet.{Meaning}
 
 -- every row before r stands at a node below n
@@ -23,8 +24,8 @@ pub record SizesFit (m : Meaning) (t : ℕ) : Type 0 where
   pub some : (1 ≤ m.size) × (m.size ≤ 32)
 
 pub data UnplacedAt (m : Meaning) (t n : ℕ) : Refusal → Type 0 where
-  sizes : (SizesFit m t → ⊥) → UnplacedAt m t n (refusal 4 0 0)
-  row : (r : ℕ) → SizesFit m t → FirstMisplaced m n r → UnplacedAt m t n (refusal 6 r 0)
+  sizes : (SizesFit m t → ⊥) → UnplacedAt m t n Misfit
+  row : (r : ℕ) → SizesFit m t → FirstMisplaced m n r → UnplacedAt m t n (Node r)
 
 abbrev pub Unplaced : Numbers → Meaning → Refusal → Type 0
 Unplaced d m = UnplacedAt m d.periods d.nodes

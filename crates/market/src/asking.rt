@@ -4,7 +4,7 @@ ghost use Rattle.std.specs.Prelude.{◌≡◌, pos, neg_ℤ, nat_lt};
 ghost use Rattle.market.specs.Fleet.{asked, unless, row_fault, schedule_of, row_prices_of, schedule_listed, prices_listed, prices_asked};
 ghost use Rattle.market.specs.Scans.{first_out};
 
-use crate::refusal::Broken;
+use crate::broken::Broken;
 use crate::row_prices::RowPrices;
 use crate::scan::first_outside;
 use crate::schedule::Schedule;

@@ -1,11 +1,11 @@
 // A fleet by what it means: where its rows stand, its verdicts and its floors. Every call answers for every input.
 ghost use Rattle.std.specs.Prelude.{◌≡◌, ℕ, Result};
 ghost use Rattle.measures.specs.declared.Grains.{Grains};
-ghost use Rattle.market.specs.declared.refusal.Broken.{Broken};
+ghost use Rattle.market.specs.declared.broken.Broken.{Broken};
 ghost use Rattle.market.specs.Fleet.{Facts, Schedule as Meant, RowPrices as Priced, meaning_of, schedule_of, row_prices_of, node_answer, verdict_answer, floor_answer};
 ghost use Rattle.market.specs.Clearing.{FloorsStand};
 
-use crate::refusal::Broken;
+use crate::broken::Broken;
 use crate::row_prices::RowPrices;
 use crate::schedule::Schedule;
 use measures::Grains;

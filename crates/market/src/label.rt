@@ -2,10 +2,19 @@
 ghost use Rattle.std.specs.Prelude.{◌≡◌, ◌*◌, ◌/◌, ◌%◌, ◌≤◌};
 ghost use Rattle.market.specs.Labels.{label};
 
-#[derive(Clone, Copy)]
+use std::fmt;
+
+#[derive(Clone, Copy, PartialEq, Eq, Debug)]
 pub struct Label {
     pub hour: u8,
     pub minute: u8,
+}
+
+impl fmt::Display for Label {
+    fn fmt<W: fmt::Write>(&self, f: &mut fmt::Formatter<W>) -> fmt::Result {
+        let Label { hour, minute } = *self;
+        write!(f, "{hour:02}:{minute:02}")
+    }
 }
 
 const HOURS: [u8; 96] = [

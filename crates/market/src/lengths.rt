@@ -3,7 +3,7 @@ ghost use Rattle.std.specs.Prelude.{◌≡◌, ◌*◌};
 ghost use Rattle.market.specs.Bounding.{prices_of};
 ghost use Rattle.market.specs.Clearing.{Sized};
 ghost use Rattle.market.specs.Days.{numbers_of};
-ghost use Rattle.market.specs.Fleet.{meaning_of};
+ghost use Rattle.market.specs.Meanings.{meaning};
 ghost use Rattle.market.specs.Judging.{PlanSized, plan_of};
 ghost use Rattle.market.specs.Lengths.{LengthsTold};
 
@@ -29,22 +29,18 @@ fn line_cells(day: &Day) -> usize
 
 // 8 unless the plan has a mark and an output for each row and period.
 pub fn plan_lengths<F: Fleet>(day: &Day, fleet: &F, plan: &Plan) -> Result<(), Refusal>
-    ensures { LengthsTold (PlanSized (numbers_of day.now.numbers) (meaning_of (F.periods fleet.now) (F.size fleet.now) (F.node fleet.now) (F.verdict fleet.now) (F.floor fleet.now)) (plan_of plan.now)) result }
+    ensures { LengthsTold (PlanSized (numbers_of day.now.numbers) (meaning F.Fleet fleet.now) (plan_of plan.now)) result }
 {
     let cells = row_cells(day, fleet);
     if plan.marks.len() != cells || plan.outputs.len() != cells {
-        return Err(Refusal {
-            number: 8,
-            place: 0,
-            period: 0,
-        });
+        return Err(Refusal::Lengths);
     }
     Ok(())
 }
 
 // 8 unless the price set has a price for each of its items and periods.
 pub fn price_lengths<F: Fleet>(day: &Day, fleet: &F, prices: &PriceSet) -> Result<(), Refusal>
-    ensures { LengthsTold (Sized (numbers_of day.now.numbers) (meaning_of (F.periods fleet.now) (F.size fleet.now) (F.node fleet.now) (F.verdict fleet.now) (F.floor fleet.now)) (prices_of prices.now)) result }
+    ensures { LengthsTold (Sized (numbers_of day.now.numbers) (meaning F.Fleet fleet.now) (prices_of prices.now)) result }
 {
     let rows = row_cells(day, fleet);
     let lines = line_cells(day);
@@ -52,18 +48,10 @@ pub fn price_lengths<F: Fleet>(day: &Day, fleet: &F, prices: &PriceSet) -> Resul
         || prices.upper.len() != lines
         || prices.lower.len() != lines
     {
-        return Err(Refusal {
-            number: 8,
-            place: 0,
-            period: 0,
-        });
+        return Err(Refusal::Lengths);
     }
     if prices.rise.len() != rows || prices.fall.len() != rows {
-        return Err(Refusal {
-            number: 8,
-            place: 0,
-            period: 0,
-        });
+        return Err(Refusal::Lengths);
     }
     Ok(())
 }

@@ -2,8 +2,10 @@
 #![tactic(auto)]
 
 mod asking;
+mod broken;
 mod clearing;
 mod day;
+mod day_fault;
 mod fault;
 mod fleet;
 mod label;
@@ -18,8 +20,10 @@ mod scan;
 mod schedule;
 
 pub use asking::{prices_asked, row_asked, schedule_asked};
+pub use broken::Broken;
 pub use clearing::{bound, judge};
 pub use day::Day;
+pub use day_fault::DayFault;
 pub use fault::Fault;
 pub use fleet::{Fleet, floors_stand};
 pub use label::{Label, label_of};
@@ -28,7 +32,7 @@ pub use numbers::DayNumbers;
 pub use placing::place;
 pub use plan::Plan;
 pub use price_set::PriceSet;
-pub use refusal::{Broken, Refusal};
+pub use refusal::Refusal;
 pub use row_prices::RowPrices;
 pub use scan::outside;
 pub use schedule::Schedule;

@@ -2,7 +2,7 @@
 ghost use Rattle.std.specs.Prelude.{◌≡◌, MatchResult};
 ghost use Rattle.market.specs.Clearing.{Placed, PlacedAt};
 ghost use Rattle.market.specs.Days.{numbers_of};
-ghost use Rattle.market.specs.Fleet.{meaning_of};
+ghost use Rattle.market.specs.Meanings.{meaning};
 ghost use Rattle.market.specs.Placing.{Unplaced, UnplacedAt, Misplaced};
 
 use crate::day::Day;
@@ -13,7 +13,7 @@ const MOST_ROWS: usize = 32;
 
 // The first row that does not stand at a node of the day.
 fn misplaced<F: Fleet>(fleet: &F, nodes: usize) -> Option<usize>
-    ensures { Misplaced (meaning_of (F.periods fleet.now) (F.size fleet.now) (F.node fleet.now) (F.verdict fleet.now) (F.floor fleet.now)) nodes result }
+    ensures { Misplaced (meaning F.Fleet fleet.now) nodes result }
 {
     for row in 0..fleet.size() {
         let Ok(node) = fleet.node(row) else {
@@ -28,29 +28,21 @@ fn misplaced<F: Fleet>(fleet: &F, nodes: usize) -> Option<usize>
 
 // Whether the fleet has so many periods and 1 to 32 rows, each at one of the nodes.
 fn fit<F: Fleet>(fleet: &F, count: usize, nodes: usize) -> Result<(), Refusal>
-    ensures { MatchResult result (λ _. PlacedAt (meaning_of (F.periods fleet.now) (F.size fleet.now) (F.node fleet.now) (F.verdict fleet.now) (F.floor fleet.now)) count nodes) (λ e. UnplacedAt (meaning_of (F.periods fleet.now) (F.size fleet.now) (F.node fleet.now) (F.verdict fleet.now) (F.floor fleet.now)) count nodes e) }
+    ensures { MatchResult result (λ _. PlacedAt (meaning F.Fleet fleet.now) count nodes) (λ e. UnplacedAt (meaning F.Fleet fleet.now) count nodes e) }
 {
     let size = fleet.size();
     if fleet.periods() != count || size < 1 || size > MOST_ROWS {
-        return Err(Refusal {
-            number: 4,
-            place: 0,
-            period: 0,
-        });
+        return Err(Refusal::Misfit);
     }
     match misplaced(fleet, nodes) {
-        Some(row) => Err(Refusal {
-            number: 6,
-            place: row,
-            period: 0,
-        }),
+        Some(row) => Err(Refusal::Node { row }),
         None => Ok(()),
     }
 }
 
 // Whether the fleet fits the day.
 pub fn place<F: Fleet>(day: &Day, fleet: &F) -> Result<(), Refusal>
-    ensures { MatchResult result (λ _. Placed (numbers_of day.now.numbers) (meaning_of (F.periods fleet.now) (F.size fleet.now) (F.node fleet.now) (F.verdict fleet.now) (F.floor fleet.now))) (λ e. Unplaced (numbers_of day.now.numbers) (meaning_of (F.periods fleet.now) (F.size fleet.now) (F.node fleet.now) (F.verdict fleet.now) (F.floor fleet.now)) e) }
+    ensures { MatchResult result (λ _. Placed (numbers_of day.now.numbers) (meaning F.Fleet fleet.now)) (λ e. Unplaced (numbers_of day.now.numbers) (meaning F.Fleet fleet.now) e) }
 {
     fit(fleet, day.numbers.periods, day.numbers.nodes)
 }

@@ -43,6 +43,39 @@ const GRAINS_OF_FEN: i64 = 1_000;
 
 const THOUSANDTHS: i64 = 1_000;
 
+// A number that is told in a measure.
+impl From<i32> for Tenths {
+    ghost from_gives = { λ number measured. measured.0 ≡ number };
+
+    fn from(value: i32) -> Tenths {
+        Tenths(value)
+    }
+}
+
+impl From<i32> for Fen {
+    ghost from_gives = { λ number measured. measured.0 ≡ number };
+
+    fn from(value: i32) -> Fen {
+        Fen(value)
+    }
+}
+
+impl From<i32> for Factor {
+    ghost from_gives = { λ number measured. measured.0 ≡ number };
+
+    fn from(value: i32) -> Factor {
+        Factor(value)
+    }
+}
+
+impl From<i64> for NetPrice {
+    ghost from_gives = { λ number measured. measured.0 ≡ number };
+
+    fn from(value: i64) -> NetPrice {
+        NetPrice(value)
+    }
+}
+
 impl Yuan {
     pub fn grains(self) -> Grains
         ensures { result.0 ≡ pos 4000000 *ℤ pos self.0 }

@@ -1,14 +1,15 @@
 // A plan judged: row by row, and then period by period.
-ghost use Rattle.std.specs.Prelude.{◌≡◌, ℕ, ◌<◌, ◌≤◌, length, ◌*ℤ◌, Err, MatchOption};
-ghost use Rattle.market.specs.Clearing.{RowsKept, factor};
+ghost use Rattle.std.specs.Prelude.{◌≡◌, ℕ, ◌<◌, ◌≤◌, length, ◌*ℤ◌};
+ghost use Rattle.std.specs.Prelude.{Err, MatchResult};
+ghost use Rattle.market.specs.Clearing.{RowsKept, factor, part, row as row_of};
 ghost use Rattle.market.specs.Days.{numbers_of};
-ghost use Rattle.market.specs.Fleet.{meaning_of};
+ghost use Rattle.market.specs.Fleet.{schedule_of};
 ghost use Rattle.market.specs.Injections.{Drawn, Fed, flow_of, LinesTold};
 ghost use Rattle.market.specs.Judging.{plan_of, Ready, RowsJudged, PeriodTold, PeriodsTold, Answered, SmallTold, Told};
+ghost use Rattle.market.specs.Meanings.{meaning};
 ghost use Rattle.market.specs.Scans.{Within, at};
 ghost use Rattle.market.specs.Totals.{total};
 
-use crate::clearing::{power, share};
 use crate::day::Day;
 use crate::fleet::Fleet;
 use crate::lengths::plan_lengths;
@@ -16,40 +17,25 @@ use crate::placing::place;
 use crate::plan::Plan;
 use crate::refusal::Refusal;
 use crate::schedule::Schedule;
-use measures::{Flow, Grains, Tenths};
+use measures::{Factor, Flow, Grains, Tenths};
 
-// The rows' costs, or the first rule that a row breaks. Each row's part of the tables is handed to the fleet in place.
-fn rows_cost<F: Fleet>(
-    day: &Day,
-    fleet: &F,
-    marks: &[u8],
-    outputs: &[i32],
-) -> Result<Grains, Refusal>
-    requires { Ready (numbers_of day.now.numbers) (meaning_of (F.periods fleet.now) (F.size fleet.now) (F.node fleet.now) (F.verdict fleet.now) (F.floor fleet.now)) (record { marks = marks.now; outputs = outputs.now }) }
-    ensures judged { RowsJudged (numbers_of day.now.numbers) (meaning_of (F.periods fleet.now) (F.size fleet.now) (F.node fleet.now) (F.verdict fleet.now) (F.floor fleet.now)) (record { marks = marks.now; outputs = outputs.now }) result }
-    ensures small { SmallTold result }
-{
-    let periods = day.numbers.periods;
-    let mut cost = Grains(0);
-    for row in 0..fleet.size() {
-        let start = row * periods;
-        let end = start + periods;
-        let schedule = Schedule {
-            marks: &marks[start..end],
-            outputs: &outputs[start..end],
-        };
-        match fleet.verdict(row, &schedule) {
-            Ok(more) => cost = cost + more,
-            Err(broken) => {
-                return Err(Refusal {
-                    number: broken.rule,
-                    place: row,
-                    period: broken.period,
-                });
-            }
-        }
+// A plan that has its lengths, for a fleet that fits the day.
+struct Offer<'a, F: Fleet> {
+    day: &'a Day<'a>,
+    fleet: &'a F,
+    plan: &'a Plan<'a>,
+    ghost ready: { Ready (numbers_of day.now.numbers) (meaning F.Fleet fleet.now) (plan_of plan.now) },
+}
+
+// Nothing is to be given back, whatever the fleet.
+impl<F: Fleet> Drop for Offer<'_, F> {
+    fn drop(self) {
+        let Offer {
+            day: _,
+            fleet: _,
+            plan: _,
+        } = self;
     }
-    Ok(cost)
 }
 
 const MOST_NODES: usize = 16;
@@ -68,169 +54,170 @@ fn drawn(day: &Day, period: usize) -> [i32; MOST_NODES]
     fed
 }
 
-// What each node feeds in, net, in a period: its rows' outputs less its load.
-fn gathered<F: Fleet>(
-    day: &Day,
-    fleet: &F,
-    marks: &[u8],
-    outputs: &[i32],
-    period: usize,
-) -> [i32; MOST_NODES]
-    requires ready { Ready (numbers_of day.now.numbers) (meaning_of (F.periods fleet.now) (F.size fleet.now) (F.node fleet.now) (F.verdict fleet.now) (F.floor fleet.now)) (record { marks = marks.now; outputs = outputs.now }) }
-    requires kept { RowsKept (numbers_of day.now.numbers) (meaning_of (F.periods fleet.now) (F.size fleet.now) (F.node fleet.now) (F.verdict fleet.now) (F.floor fleet.now)) (record { marks = marks.now; outputs = outputs.now }) (F.size fleet.now) }
-    requires on { period < day.now.numbers.periods }
-    ensures long { length result ≡ 16 }
-    ensures fed { Fed (numbers_of day.now.numbers) (meaning_of (F.periods fleet.now) (F.size fleet.now) (F.node fleet.now) (F.verdict fleet.now) (F.floor fleet.now)) (record { marks = marks.now; outputs = outputs.now }) period (F.size fleet.now) result }
-{
-    let periods = day.numbers.periods;
-    let size = fleet.size();
-    let mut fed = drawn(day, period);
-    for row in 0..size {
-        let Ok(node) = fleet.node(row) else {
-            return fed;
-        };
-        fed[node] = fed[node] + outputs[row * periods + period];
-    }
-    fed
-}
-
 // What all nodes feed in, net.
-fn sum(fed: &[i32], nodes: usize) -> Tenths
-    requires few { (nodes ≤ 16) × (nodes ≤ length fed.now) }
-    requires small { (k : ℕ) → k < nodes → Within 680000 (at fed.now k) }
-    ensures { result.0 ≡ total nodes (λ k. at fed.now k) }
+fn sum(fed: &[i32]) -> Tenths
+    requires few { length fed.now ≤ 16 }
+    requires small { (k : ℕ) → k < length fed.now → Within 680000 (at fed.now k) }
+    ensures { result.0 ≡ total (length fed.now) (λ k. at fed.now k) }
 {
     let mut all = Tenths(0);
-    for node in 0..nodes {
-        all = all + power(fed, node);
+    for power in fed {
+        all = all + Tenths(*power);
     }
     all
 }
 
+// A line's factors, node by node.
+fn factors<'a>(day: &Day<'a>, line: usize) -> &'a [i32]
+    requires { line < day.now.numbers.lines }
+    ensures { result.now ≡ part day.now.numbers.nodes line day.now.numbers.factors.now }
+{
+    let start = line * day.numbers.nodes;
+    &day.numbers.factors[start..start + day.numbers.nodes]
+}
+
 // The flow over a line of what the nodes feed in: whole factors, summed before anything is compared.
 fn flow(day: &Day, line: usize, fed: &[i32]) -> Flow
-    requires few { (line < day.now.numbers.lines) × (day.now.numbers.nodes ≤ length fed.now) }
+    requires few { (line < day.now.numbers.lines) × (day.now.numbers.nodes ≡ length fed.now) }
     requires small { (k : ℕ) → k < day.now.numbers.nodes → Within 680000 (at fed.now k) }
     ensures { result.0 ≡ total day.now.numbers.nodes (λ k. factor (numbers_of day.now.numbers) line k *ℤ at fed.now k) }
 {
-    let nodes = day.numbers.nodes;
     let mut all = Flow(0);
-    for node in 0..nodes {
-        all = all + share(day.numbers.factors, line * nodes + node) * power(fed, node);
+    for (factor, power) in factors(day, line).iter().zip(fed) {
+        all = all + Factor(*factor) * Tenths(*power);
     }
     all
 }
 
 // The first line whose limit is broken by what the nodes feed in, the upper limit asked before the lower.
-fn line_broken(day: &Day, fed: &[i32], period: usize) -> Option<Refusal>
-    requires few { (day.now.numbers.nodes ≤ length fed.now) × (period < 96) }
+fn lines_asked(day: &Day, fed: &[i32], period: usize) -> Result<(), Refusal>
+    requires few { (day.now.numbers.nodes ≡ length fed.now) × (period < 96) }
     requires small { (k : ℕ) → k < day.now.numbers.nodes → Within 680000 (at fed.now k) }
     ensures { LinesTold (numbers_of day.now.numbers) (flow_of (numbers_of day.now.numbers) fed.now) period result }
 {
+    let period = period + 1;
     for line in 0..day.numbers.lines {
         let carried = flow(day, line, fed);
-        let upper = power(day.numbers.upper, line).flow();
-        let lower = power(day.numbers.lower, line).flow();
+        let upper = Tenths(day.numbers.upper[line]).flow();
+        let lower = Tenths(day.numbers.lower[line]).flow();
         if carried.exceeds(upper) {
-            return Some(Refusal {
-                number: 17,
-                place: line,
-                period: period + 1,
-            });
+            return Err(Refusal::Upper { line, period });
         }
         if lower.exceeds(carried) {
-            return Some(Refusal {
-                number: 18,
-                place: line,
-                period: period + 1,
-            });
+            return Err(Refusal::Lower { line, period });
         }
     }
-    None
+    Ok(())
 }
 
-// The first market rule that is broken in a period: the balance, and then line by line.
-fn period_broken<F: Fleet>(
-    day: &Day,
-    fleet: &F,
-    marks: &[u8],
-    outputs: &[i32],
-    period: usize,
-) -> Option<Refusal>
-    requires ready { Ready (numbers_of day.now.numbers) (meaning_of (F.periods fleet.now) (F.size fleet.now) (F.node fleet.now) (F.verdict fleet.now) (F.floor fleet.now)) (record { marks = marks.now; outputs = outputs.now }) }
-    requires kept { RowsKept (numbers_of day.now.numbers) (meaning_of (F.periods fleet.now) (F.size fleet.now) (F.node fleet.now) (F.verdict fleet.now) (F.floor fleet.now)) (record { marks = marks.now; outputs = outputs.now }) (F.size fleet.now) }
-    requires on { period < day.now.numbers.periods }
-    ensures { PeriodTold (numbers_of day.now.numbers) (meaning_of (F.periods fleet.now) (F.size fleet.now) (F.node fleet.now) (F.verdict fleet.now) (F.floor fleet.now)) (record { marks = marks.now; outputs = outputs.now }) period result }
-{
-    let fed = gathered(day, fleet, marks, outputs, period);
-    if sum(&fed, day.numbers.nodes).0 != 0 {
-        return Some(Refusal {
-            number: 16,
-            place: 0,
-            period: period + 1,
-        });
-    }
-    line_broken(day, &fed, period)
-}
-
-// The first market rule that is broken, period by period.
-fn periods_broken<F: Fleet>(day: &Day, fleet: &F, marks: &[u8], outputs: &[i32]) -> Option<Refusal>
-    requires ready { Ready (numbers_of day.now.numbers) (meaning_of (F.periods fleet.now) (F.size fleet.now) (F.node fleet.now) (F.verdict fleet.now) (F.floor fleet.now)) (record { marks = marks.now; outputs = outputs.now }) }
-    requires kept { RowsKept (numbers_of day.now.numbers) (meaning_of (F.periods fleet.now) (F.size fleet.now) (F.node fleet.now) (F.verdict fleet.now) (F.floor fleet.now)) (record { marks = marks.now; outputs = outputs.now }) (F.size fleet.now) }
-    ensures { PeriodsTold (numbers_of day.now.numbers) (meaning_of (F.periods fleet.now) (F.size fleet.now) (F.node fleet.now) (F.verdict fleet.now) (F.floor fleet.now)) (record { marks = marks.now; outputs = outputs.now }) result }
-{
-    for period in 0..day.numbers.periods {
-        match period_broken(day, fleet, marks, outputs, period) {
-            Some(broken) => return Some(broken),
-            None => {}
+impl<F: Fleet> Offer<'_, F> {
+    // A row's part of the plan, in place.
+    fn schedule(&self, row: usize) -> Schedule<'_>
+        requires { row < F.size self.now.fleet.now }
+        ensures { schedule_of result ≡ row_of (numbers_of self.now.day.now.numbers) (plan_of self.now.plan.now) row }
+    {
+        let start = row * self.day.numbers.periods;
+        let end = start + self.day.numbers.periods;
+        Schedule {
+            marks: &self.plan.marks[start..end],
+            outputs: &self.plan.outputs[start..end],
         }
     }
-    None
-}
 
-// What a lawful plan costs, or the first rule that is broken: the rows', and then the market's.
-fn judged<F: Fleet>(day: &Day, fleet: &F, marks: &[u8], outputs: &[i32]) -> Result<Grains, Refusal>
-    requires { Ready (numbers_of day.now.numbers) (meaning_of (F.periods fleet.now) (F.size fleet.now) (F.node fleet.now) (F.verdict fleet.now) (F.floor fleet.now)) (record { marks = marks.now; outputs = outputs.now }) }
-    ensures answered { Answered (numbers_of day.now.numbers) (meaning_of (F.periods fleet.now) (F.size fleet.now) (F.node fleet.now) (F.verdict fleet.now) (F.floor fleet.now)) (record { marks = marks.now; outputs = outputs.now }) result }
-    ensures small { SmallTold result }
-{
-    match rows_cost(day, fleet, marks, outputs) {
-        Ok(cost) => match periods_broken(day, fleet, marks, outputs) {
-            Some(broken) => Err(broken),
-            None => Ok(cost),
-        },
-        Err(broken) => Err(broken),
+    // The rows' costs, or the first rule that a row breaks.
+    fn rows_cost(&self) -> Result<Grains, Refusal>
+        ensures judged { RowsJudged (numbers_of self.now.day.now.numbers) (meaning F.Fleet self.now.fleet.now) (plan_of self.now.plan.now) result }
+        ensures small { SmallTold result }
+    {
+        let mut cost = Grains(0);
+        for row in 0..self.fleet.size() {
+            match self.fleet.verdict(row, &self.schedule(row)) {
+                Ok(more) => cost = cost + more,
+                Err(broken) => return Err(Refusal::Row { row, broken }),
+            }
+        }
+        Ok(cost)
+    }
+
+    // What each node feeds in, net, in a period: its rows' outputs less its load.
+    fn gathered(&self, period: usize) -> [i32; MOST_NODES]
+        requires kept { RowsKept (numbers_of self.now.day.now.numbers) (meaning F.Fleet self.now.fleet.now) (plan_of self.now.plan.now) (F.size self.now.fleet.now) }
+        requires on { period < self.now.day.now.numbers.periods }
+        ensures long { length result ≡ 16 }
+        ensures fed { Fed (numbers_of self.now.day.now.numbers) (meaning F.Fleet self.now.fleet.now) (plan_of self.now.plan.now) period (F.size self.now.fleet.now) result }
+    {
+        let periods = self.day.numbers.periods;
+        let size = self.fleet.size();
+        let mut fed = drawn(self.day, period);
+        for row in 0..size {
+            let Ok(node) = self.fleet.node(row) else {
+                unreachable!()
+            };
+            fed[node] += self.plan.outputs[row * periods + period];
+        }
+        fed
+    }
+
+    // The first market rule that is broken in a period: the balance, and then line by line.
+    fn period_asked(&self, period: usize) -> Result<(), Refusal>
+        requires kept { RowsKept (numbers_of self.now.day.now.numbers) (meaning F.Fleet self.now.fleet.now) (plan_of self.now.plan.now) (F.size self.now.fleet.now) }
+        requires on { period < self.now.day.now.numbers.periods }
+        ensures { PeriodTold (numbers_of self.now.day.now.numbers) (meaning F.Fleet self.now.fleet.now) (plan_of self.now.plan.now) period result }
+    {
+        let all = self.gathered(period);
+        let fed = &all[..self.day.numbers.nodes];
+        if sum(fed) != Tenths(0) {
+            return Err(Refusal::Balance { period: period + 1 });
+        }
+        lines_asked(self.day, fed, period)
+    }
+
+    // The first market rule that is broken, period by period.
+    fn periods_asked(&self) -> Result<(), Refusal>
+        requires kept { RowsKept (numbers_of self.now.day.now.numbers) (meaning F.Fleet self.now.fleet.now) (plan_of self.now.plan.now) (F.size self.now.fleet.now) }
+        ensures { PeriodsTold (numbers_of self.now.day.now.numbers) (meaning F.Fleet self.now.fleet.now) (plan_of self.now.plan.now) result }
+    {
+        for period in 0..self.day.numbers.periods {
+            self.period_asked(period)?;
+        }
+        Ok(())
+    }
+
+    // What a lawful plan costs, or the first rule that is broken: the rows', and then the market's.
+    fn judged(&self) -> Result<Grains, Refusal>
+        ensures answered { Answered (numbers_of self.now.day.now.numbers) (meaning F.Fleet self.now.fleet.now) (plan_of self.now.plan.now) result }
+        ensures small { SmallTold result }
+    {
+        let cost = self.rows_cost()?;
+        self.periods_asked()?;
+        Ok(cost)
+    }
+
+    // The same, told as the only answer.
+    fn answer(&self) -> Result<Grains, Refusal>
+        ensures { Told (numbers_of self.now.day.now.numbers) (meaning F.Fleet self.now.fleet.now) (plan_of self.now.plan.now) result }
+    {
+        self.judged()
     }
 }
 
-// The answer to a plan that has its lengths, for a fleet that fits the day.
-fn answer_of<F: Fleet>(day: &Day, fleet: &F, plan: &Plan) -> Result<Grains, Refusal>
-    requires { Ready (numbers_of day.now.numbers) (meaning_of (F.periods fleet.now) (F.size fleet.now) (F.node fleet.now) (F.verdict fleet.now) (F.floor fleet.now)) (plan_of plan.now) }
-    ensures { Told (numbers_of day.now.numbers) (meaning_of (F.periods fleet.now) (F.size fleet.now) (F.node fleet.now) (F.verdict fleet.now) (F.floor fleet.now)) (plan_of plan.now) result }
+// The plan as one that can be judged, or the first no before the rules: the fleet does not fit the day, or the plan has not its lengths.
+fn offered<'a, F: Fleet>(
+    day: &'a Day<'a>,
+    fleet: &'a F,
+    plan: &'a Plan<'a>,
+) -> Result<Offer<'a, F>, Refusal>
+    ensures { MatchResult result (λ offer. (offer.day.now ≡ day.now) × (offer.fleet.now ≡ fleet.now) × (offer.plan.now ≡ plan.now)) (λ e. Told (numbers_of day.now.numbers) (meaning F.Fleet fleet.now) (plan_of plan.now) (Err e)) }
 {
-    judged(day, fleet, plan.marks, plan.outputs)
-}
-
-// The first no before the rules: the fleet does not fit the day, or the plan has not its lengths.
-fn unready<F: Fleet>(day: &Day, fleet: &F, plan: &Plan) -> Option<Refusal>
-    ensures { MatchOption result (Ready (numbers_of day.now.numbers) (meaning_of (F.periods fleet.now) (F.size fleet.now) (F.node fleet.now) (F.verdict fleet.now) (F.floor fleet.now)) (plan_of plan.now)) (λ e. Told (numbers_of day.now.numbers) (meaning_of (F.periods fleet.now) (F.size fleet.now) (F.node fleet.now) (F.verdict fleet.now) (F.floor fleet.now)) (plan_of plan.now) (Err e)) }
-{
-    match place(day, fleet) {
-        Ok(()) => match plan_lengths(day, fleet, plan) {
-            Ok(()) => None,
-            Err(refusal) => Some(refusal),
-        },
-        Err(refusal) => Some(refusal),
-    }
+    place(day, fleet)?;
+    plan_lengths(day, fleet, plan)?;
+    Ok(Offer { day, fleet, plan })
 }
 
 // What a plan costs, if it is lawful; else the first no.
 pub fn judge<F: Fleet>(day: &Day, fleet: &F, plan: &Plan) -> Result<Grains, Refusal>
-    ensures answered { Answered (numbers_of day.now.numbers) (meaning_of (F.periods fleet.now) (F.size fleet.now) (F.node fleet.now) (F.verdict fleet.now) (F.floor fleet.now)) (record { marks = plan.now.marks.now; outputs = plan.now.outputs.now }) result }
-    ensures told { Told (numbers_of day.now.numbers) (meaning_of (F.periods fleet.now) (F.size fleet.now) (F.node fleet.now) (F.verdict fleet.now) (F.floor fleet.now)) (plan_of plan.now) result }
+    ensures answered { Answered (numbers_of day.now.numbers) (meaning F.Fleet fleet.now) (plan_of plan.now) result }
+    ensures told { Told (numbers_of day.now.numbers) (meaning F.Fleet fleet.now) (plan_of plan.now) result }
 {
-    match unready(day, fleet, plan) {
-        Some(refusal) => Err(refusal),
-        None => answer_of(day, fleet, plan),
-    }
+    offered(day, fleet, plan)?.answer()
 }

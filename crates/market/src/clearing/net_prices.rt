@@ -1,44 +1,117 @@
 // Net prices: what a tenth of a megawatt fed in at a node is worth in a period. Periods count from 0 here.
 mod bounding;
 
-ghost use Rattle.std.specs.Prelude.{◌≡◌, ◌<◌};
-ghost use Rattle.market.specs.Bounding.{prices_of, LinesPriced, Netted};
+ghost use Rattle.std.specs.Prelude.{◌≡◌, ◌<◌, length, slice_index_or};
+ghost use Rattle.market.specs.Bounding.{prices_of, LinesPriced, Netted, limits_come, loads_pay, PeriodsFloored};
 ghost use Rattle.market.specs.Clearing.{net_price};
 ghost use Rattle.market.specs.Days.{numbers_of};
 
-use crate::clearing::{price, share};
 use crate::day::Day;
 use crate::price_set::PriceSet;
 pub use bounding::bound;
-use measures::NetPrice;
+use measures::{Factor, Fen, Grains, NetPrice, Tenths};
+
+// One cell of a table, in its measure.
+fn measured<T: Copy, M: From<T>>(table: &[T], cell: usize) -> M
+    requires { cell < length table.now }
+    ensures { (d : T) → M.from_gives (slice_index_or table.now cell d) result }
+{
+    M::from(table[cell])
+}
+
+// System prices and prices of lines' limits, which have their cells on the day and are within their limits.
+#[derive(Clone, Copy)]
+struct LinePrices<'a> {
+    day: &'a Day<'a>,
+    prices: &'a PriceSet<'a>,
+    ghost priced: { LinesPriced (numbers_of day.now.numbers) (prices_of prices.now) },
+}
 
 // A cell for each of 16 nodes and 96 periods.
 const MOST_CELLS: usize = 1_536;
 
-// The system price, less what the lines' prices take of it at the node.
-fn net_price(day: &Day, prices: &PriceSet, node: usize, period: usize) -> NetPrice
-    requires on { (node < day.now.numbers.nodes) × (period < day.now.numbers.periods) }
-    requires priced { LinesPriced (numbers_of day.now.numbers) (prices_of prices.now) }
-    ensures { result.0 ≡ net_price (numbers_of day.now.numbers) (prices_of prices.now) node period }
-{
-    let mut net = price(prices.system, period).net();
-    for line in 0..day.numbers.lines {
-        let cell = line * day.numbers.periods + period;
-        let limit = price(prices.upper, cell) - price(prices.lower, cell);
-        net = net - limit * share(day.numbers.factors, line * day.numbers.nodes + node);
-    }
-    net
+// The net prices that they make, node by node and then by period.
+#[derive(Drop)]
+struct Nets<'a> {
+    lines: LinePrices<'a>,
+    cells: [i64; MOST_CELLS],
+    ghost netted: { Netted (numbers_of lines.day.now.numbers) (prices_of lines.prices.now) cells },
 }
 
-// The net prices, node by node and then by period.
-fn all_nets(day: &Day, prices: &PriceSet) -> [i64; MOST_CELLS]
-    requires { LinesPriced (numbers_of day.now.numbers) (prices_of prices.now) }
-    ensures { Netted (numbers_of day.now.numbers) (prices_of prices.now) result }
-{
-    let periods = day.numbers.periods;
-    let mut nets = [0i64; MOST_CELLS];
-    for cell in 0..day.numbers.nodes * periods {
-        nets[cell] = net_price(day, prices, cell / periods, cell % periods).0;
+impl<'a> LinePrices<'a> {
+    // The system price, less what the lines' prices take of it at the node.
+    fn net_price(&self, node: usize, period: usize) -> NetPrice
+        requires { (node < self.now.day.now.numbers.nodes) × (period < self.now.day.now.numbers.periods) }
+        ensures { result.0 ≡ net_price (numbers_of self.now.day.now.numbers) (prices_of self.now.prices.now) node period }
+    {
+        let day = self.day.numbers;
+        let system: Fen = measured(self.prices.system, period);
+        let mut net = system.net();
+        for line in 0..day.lines {
+            let cell = line * day.periods + period;
+            let upper: Fen = measured(self.prices.upper, cell);
+            let lower: Fen = measured(self.prices.lower, cell);
+            let share: Factor = measured(day.factors, line * day.nodes + node);
+            net = net - (upper - lower) * share;
+        }
+        net
     }
-    nets
+
+    fn nets(self) -> Nets<'a>
+        ensures { result.lines ≡ self.entry }
+    {
+        let periods = self.day.numbers.periods;
+        let mut cells = [0i64; MOST_CELLS];
+        for cell in 0..self.day.numbers.nodes * periods {
+            cells[cell] = self.net_price(cell / periods, cell % periods).0;
+        }
+        Nets { lines: self, cells }
+    }
+
+    // What the limits of all lines come to in a period, each at its price.
+    fn limits_come(&self, period: usize) -> Grains
+        requires { period < self.now.day.now.numbers.periods }
+        ensures { result.0 ≡ limits_come (numbers_of self.now.day.now.numbers) (prices_of self.now.prices.now) period }
+    {
+        let day = self.day.numbers;
+        let mut all = Grains(0);
+        for line in 0..day.lines {
+            let cell = line * day.periods + period;
+            let upper = measured::<_, Fen>(self.prices.upper, cell).net()
+                * measured(day.upper, line);
+            let lower = measured::<_, Fen>(self.prices.lower, cell).net()
+                * measured(day.lower, line);
+            all = all + (upper - lower);
+        }
+        all
+    }
+}
+
+impl Nets<'_> {
+    // What the loads of a period pay, each at its node's net price.
+    fn loads_pay(&self, period: usize) -> Grains
+        requires { period < self.now.lines.day.now.numbers.periods }
+        ensures { result.0 ≡ loads_pay (numbers_of self.now.lines.day.now.numbers) (prices_of self.now.lines.prices.now) period }
+    {
+        let day = self.lines.day.numbers;
+        let mut paid = Grains(0);
+        for node in 0..day.nodes {
+            let cell = node * day.periods + period;
+            let net: NetPrice = measured(&self.cells, cell);
+            let load: Tenths = measured(day.loads, cell);
+            paid = paid + net * load;
+        }
+        paid
+    }
+
+    // What all periods add to the floor.
+    fn periods_floor(&self) -> Grains
+        ensures { PeriodsFloored (numbers_of self.now.lines.day.now.numbers) (prices_of self.now.lines.prices.now) self.now.lines.day.now.numbers.periods result.0 }
+    {
+        let mut all = Grains(0);
+        for period in 0..self.lines.day.numbers.periods {
+            all = all + (self.loads_pay(period) - self.lines.limits_come(period));
+        }
+        all
+    }
 }

@@ -1,11 +1,11 @@
 // Making a day: its questions in order.
-ghost use Rattle.std.specs.Prelude.{◌≡◌, ◌*◌, true, length, is_ok, if◌then◌else◌, MatchOption, MatchResult, ◌==◌};
+ghost use Rattle.std.specs.Prelude.{◌≡◌, ◌*◌, length, is_ok, if◌then◌else◌, MatchResult, ◌==◌};
 ghost use Rattle.market.specs.Days.{Refused, Made, smallest_numbers, numbers_of, shape_test, lengths_test, Fits};
 ghost use Rattle.market.specs.Scans.{Crossed};
 
 use crate::day::Day;
+use crate::day_fault::DayFault;
 use crate::numbers::DayNumbers;
-use crate::refusal::Refusal;
 use crate::scan::outside;
 
 const MOST_PERIODS: usize = 96;
@@ -24,10 +24,7 @@ const MOST_LIMIT: i32 = 200_000;
 fn exact(len: usize, items: usize, each: usize) -> bool
     ensures { result ≡ (len == items * each) }
 {
-    match items.checked_mul(each) {
-        Some(cells) => len == cells,
-        None => false,
-    }
+    items.checked_mul(each) == Some(len)
 }
 
 impl DayNumbers<'_> {
@@ -46,59 +43,36 @@ impl DayNumbers<'_> {
                 && (self.lower.len() == self.lines && self.upper.len() == self.lines))
     }
 
-    // The first question that has the answer no.
-    fn first_no(&self) -> Option<Refusal>
-        ensures { MatchOption result (Fits (numbers_of self.now)) (λ e. Refused (numbers_of self.now) e) }
+    // The questions in order, up to the first that has the answer no.
+    fn asked(&self) -> Result<(), DayFault>
+        ensures { MatchResult result (λ _. Fits (numbers_of self.now)) (λ e. Refused (numbers_of self.now) e) }
     {
         if !self.shape_fits() {
-            return Some(Refusal {
-                number: 1,
-                place: 0,
-                period: 0,
-            });
+            return Err(DayFault::Shape);
         }
         if !self.lengths_fit() {
-            return Some(Refusal {
-                number: 2,
-                place: 0,
-                period: 0,
-            });
+            return Err(DayFault::Lengths);
         }
         if let Some(i) = outside(self.loads, -MOST_LOAD, MOST_LOAD) {
-            return Some(Refusal {
-                number: 3,
-                place: i / self.periods,
+            return Err(DayFault::Load {
+                node: i / self.periods,
                 period: i % self.periods + 1,
             });
         }
         if let Some(i) = outside(self.factors, -MOST_FACTOR, MOST_FACTOR) {
-            return Some(Refusal {
-                number: 3,
-                place: i / self.nodes,
-                period: 0,
+            return Err(DayFault::Factor {
+                line: i / self.nodes,
             });
         }
         if let Some(line) = outside(self.lower, -MOST_LIMIT, MOST_LIMIT) {
-            return Some(Refusal {
-                number: 3,
-                place: line,
-                period: 0,
-            });
+            return Err(DayFault::Lower { line });
         }
         if let Some(line) = outside(self.upper, -MOST_LIMIT, MOST_LIMIT) {
-            return Some(Refusal {
-                number: 3,
-                place: line,
-                period: 0,
-            });
+            return Err(DayFault::Upper { line });
         }
         match crossed(self.lower, self.upper) {
-            Some(line) => Some(Refusal {
-                number: 3,
-                place: line,
-                period: 0,
-            }),
-            None => None,
+            Some(line) => Err(DayFault::Crossed { line }),
+            None => Ok(()),
         }
     }
 }
@@ -108,12 +82,10 @@ fn crossed(lower: &[i32], upper: &[i32]) -> Option<usize>
     requires { length lower.now ≡ length upper.now }
     ensures { Crossed lower.now upper.now result }
 {
-    for i in 0..lower.len() {
-        if lower[i] > upper[i] {
-            return Some(i);
-        }
-    }
-    None
+    lower
+        .iter()
+        .zip(upper)
+        .position(|(lower, upper)| lower > upper)
 }
 
 impl<'a> Day<'a> {
@@ -135,16 +107,12 @@ impl<'a> Day<'a> {
     }
 
     // Fills the place with a day of these numbers, or tells the first no and leaves it as it was.
-    pub fn make(&mut self, numbers: DayNumbers<'a>) -> Result<(), Refusal>
+    pub fn make(&mut self, numbers: DayNumbers<'a>) -> Result<(), DayFault>
         ensures answer { MatchResult result (λ _. Made (numbers_of numbers.entry)) (λ e. Refused (numbers_of numbers.entry) e) }
         ensures held { numbers_of self.new.numbers ≡ (if is_ok result then numbers_of numbers.entry else numbers_of self.old.numbers) }
     {
-        match numbers.first_no() {
-            Some(refusal) => Err(refusal),
-            None => {
-                *self = Day { numbers };
-                Ok(())
-            }
-        }
+        numbers.asked()?;
+        *self = Day { numbers };
+        Ok(())
     }
 }

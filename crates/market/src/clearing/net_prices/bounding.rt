@@ -1,11 +1,12 @@
 // A price set bounded: its questions in order, and its floor.
-ghost use Rattle.std.specs.Prelude.{◌≡◌, ◌<◌, ◌≤◌, Ok, Err, MatchOption};
-ghost use Rattle.market.specs.Bounding.{prices_of, OverTold, RangesTold, LinesPriced, Netted, Ready, Told, loads_pay, limits_come, RowsFloored, PeriodsFloored};
+ghost use Rattle.std.specs.Prelude.{◌≡◌, ◌<◌, ◌≤◌, Ok, Err, MatchResult};
+ghost use Rattle.market.specs.Bounding.{prices_of, OverTold, RangesTold, Ready, Told, Netted, RowsFloored};
+ghost use Rattle.market.specs.Clearing.{row_prices};
 ghost use Rattle.market.specs.Days.{numbers_of};
-ghost use Rattle.market.specs.Fleet.{meaning_of};
+ghost use Rattle.market.specs.Fleet.{row_prices_of};
+ghost use Rattle.market.specs.Meanings.{meaning};
 
-use crate::clearing::net_prices::all_nets;
-use crate::clearing::{net, power, price};
+use crate::clearing::net_prices::LinePrices;
 use crate::day::Day;
 use crate::fleet::Fleet;
 use crate::lengths::price_lengths;
@@ -18,144 +19,113 @@ use measures::Grains;
 
 const MOST_PRICE: i32 = 1_000_000;
 
+// A price set that has its lengths and is in range, for a fleet that fits the day.
+struct Offer<'a, F: Fleet> {
+    day: &'a Day<'a>,
+    fleet: &'a F,
+    prices: &'a PriceSet<'a>,
+    ghost ready: { Ready (numbers_of day.now.numbers) (meaning F.Fleet fleet.now) (prices_of prices.now) },
+}
+
+// Nothing is to be given back, whatever the fleet.
+impl<F: Fleet> Drop for Offer<'_, F> {
+    fn drop(self) {
+        let Offer {
+            day: _,
+            fleet: _,
+            prices: _,
+        } = self;
+    }
+}
+
 // The first price of a limit, a rise or a fall that is out of its limits.
-fn over(table: &[i32], count: usize) -> Option<Refusal>
+fn limited(table: &[i32], count: usize) -> Result<(), Refusal>
     requires { 1 ≤ count }
     ensures { OverTold count table.now result }
 {
     match outside(table, 0, MOST_PRICE) {
-        Some(cell) => Some(Refusal {
-            number: 19,
+        Some(cell) => Err(Refusal::Price {
             place: cell / count,
             period: cell % count + 1,
         }),
-        None => None,
+        None => Ok(()),
     }
 }
 
 // The first price that is out of its limits: system prices, then those of upper and of lower limits, of rises and of falls.
-fn out_of_range(prices: &PriceSet, count: usize) -> Option<Refusal>
+fn in_range(prices: &PriceSet, count: usize) -> Result<(), Refusal>
     requires { 1 ≤ count }
     ensures { RangesTold count (prices_of prices.now) result }
 {
     if let Some(period) = outside(prices.system, -MOST_PRICE, MOST_PRICE) {
-        return Some(Refusal {
-            number: 19,
+        return Err(Refusal::Price {
             place: 0,
             period: period + 1,
         });
     }
-    if let Some(refusal) = over(prices.upper, count) {
-        return Some(refusal);
-    }
-    if let Some(refusal) = over(prices.lower, count) {
-        return Some(refusal);
-    }
-    if let Some(refusal) = over(prices.rise, count) {
-        return Some(refusal);
-    }
-    over(prices.fall, count)
+    limited(prices.upper, count)?;
+    limited(prices.lower, count)?;
+    limited(prices.rise, count)?;
+    limited(prices.fall, count)
 }
 
-// What the loads of a period pay, each at its node's net price.
-fn loads_pay(day: &Day, nets: &[i64], prices: &PriceSet, period: usize) -> Grains
-    requires on { period < day.now.numbers.periods }
-    requires priced { LinesPriced (numbers_of day.now.numbers) (prices_of prices.now) }
-    requires netted { Netted (numbers_of day.now.numbers) (prices_of prices.now) nets.now }
-    ensures { result.0 ≡ loads_pay (numbers_of day.now.numbers) (prices_of prices.now) period }
-{
-    let mut paid = Grains(0);
-    for node in 0..day.numbers.nodes {
-        let cell = node * day.numbers.periods + period;
-        paid = paid + net(nets, cell) * power(day.numbers.loads, cell);
-    }
-    paid
-}
-
-// What the limits of all lines come to in a period, each at its price.
-fn limits_come(day: &Day, prices: &PriceSet, period: usize) -> Grains
-    requires on { period < day.now.numbers.periods }
-    requires priced { LinesPriced (numbers_of day.now.numbers) (prices_of prices.now) }
-    ensures { result.0 ≡ limits_come (numbers_of day.now.numbers) (prices_of prices.now) period }
-{
-    let mut all = Grains(0);
-    for line in 0..day.numbers.lines {
-        let cell = line * day.numbers.periods + period;
-        let upper = price(prices.upper, cell).net() * power(day.numbers.upper, line);
-        let lower = price(prices.lower, cell).net() * power(day.numbers.lower, line);
-        all = all + (upper - lower);
-    }
-    all
-}
-
-// What all periods add to the floor.
-fn periods_floor(day: &Day, nets: &[i64], prices: &PriceSet) -> Grains
-    requires priced { LinesPriced (numbers_of day.now.numbers) (prices_of prices.now) }
-    requires netted { Netted (numbers_of day.now.numbers) (prices_of prices.now) nets.now }
-    ensures { PeriodsFloored (numbers_of day.now.numbers) (prices_of prices.now) day.now.numbers.periods result.0 }
-{
-    let mut all = Grains(0);
-    for period in 0..day.numbers.periods {
-        all = all + (loads_pay(day, nets, prices, period) - limits_come(day, prices, period));
-    }
-    all
-}
-
-// The rows' floors. Each row's part of the tables is handed to the fleet in place.
-fn rows_floor<F: Fleet>(day: &Day, fleet: &F, nets: &[i64], prices: &PriceSet) -> Grains
-    requires ready { Ready (numbers_of day.now.numbers) (meaning_of (F.periods fleet.now) (F.size fleet.now) (F.node fleet.now) (F.verdict fleet.now) (F.floor fleet.now)) (prices_of prices.now) }
-    requires netted { Netted (numbers_of day.now.numbers) (prices_of prices.now) nets.now }
-    ensures { RowsFloored (numbers_of day.now.numbers) (meaning_of (F.periods fleet.now) (F.size fleet.now) (F.node fleet.now) (F.verdict fleet.now) (F.floor fleet.now)) (prices_of prices.now) (F.size fleet.now) result.0 }
-{
-    let periods = day.numbers.periods;
-    let mut floor = Grains(0);
-    for row in 0..fleet.size() {
-        let Ok(node) = fleet.node(row) else {
-            return floor;
-        };
-        let here = node * periods;
-        let start = row * periods;
-        let prices = RowPrices {
-            net: &nets[here..here + periods],
-            rise: &prices.rise[start..start + periods],
-            fall: &prices.fall[start..start + periods],
-        };
-        match fleet.floor(row, &prices) {
-            Ok(more) => floor = floor + more,
-            Err(_) => return floor,
+impl<F: Fleet> Offer<'_, F> {
+    // The rows' floors. Each row's part of the tables is handed to the fleet in place.
+    fn rows_floor(&self, nets: &[i64]) -> Grains
+        requires { Netted (numbers_of self.now.day.now.numbers) (prices_of self.now.prices.now) nets.now }
+        ensures { RowsFloored (numbers_of self.now.day.now.numbers) (meaning F.Fleet self.now.fleet.now) (prices_of self.now.prices.now) (F.size self.now.fleet.now) result.0 }
+    {
+        let periods = self.day.numbers.periods;
+        let mut floor = Grains(0);
+        for row in 0..self.fleet.size() {
+            let Ok(node) = self.fleet.node(row) else {
+                unreachable!()
+            };
+            let here = node * periods;
+            let start = row * periods;
+            let prices = RowPrices {
+                net: &nets[here..here + periods],
+                rise: &self.prices.rise[start..start + periods],
+                fall: &self.prices.fall[start..start + periods],
+            };
+            let Ok(more) = self.fleet.floor(row, &prices) else {
+                unreachable!()
+            };
+            floor = floor + more;
         }
+        floor
     }
-    floor
+
+    fn floor(&self) -> Grains
+        ensures { Told (numbers_of self.now.day.now.numbers) (meaning F.Fleet self.now.fleet.now) (prices_of self.now.prices.now) (Ok result) }
+    {
+        let lines = LinePrices {
+            day: self.day,
+            prices: self.prices,
+        };
+        let nets = lines.nets();
+        self.rows_floor(&nets.cells) + nets.periods_floor()
+    }
 }
 
-// The floor of a price set in range.
-fn floor_of<F: Fleet>(day: &Day, fleet: &F, prices: &PriceSet) -> Grains
-    requires { Ready (numbers_of day.now.numbers) (meaning_of (F.periods fleet.now) (F.size fleet.now) (F.node fleet.now) (F.verdict fleet.now) (F.floor fleet.now)) (prices_of prices.now) }
-    ensures { Told (numbers_of day.now.numbers) (meaning_of (F.periods fleet.now) (F.size fleet.now) (F.node fleet.now) (F.verdict fleet.now) (F.floor fleet.now)) (prices_of prices.now) (Ok result) }
+// The price set as one that can be bounded, or the first no: the fleet does not fit the day, or a list has not its length, or a price is out of
+// its limits.
+fn offered<'a, F: Fleet>(
+    day: &'a Day<'a>,
+    fleet: &'a F,
+    prices: &'a PriceSet<'a>,
+) -> Result<Offer<'a, F>, Refusal>
+    ensures { MatchResult result (λ offer. (offer.day.now ≡ day.now) × (offer.fleet.now ≡ fleet.now) × (offer.prices.now ≡ prices.now)) (λ e. Told (numbers_of day.now.numbers) (meaning F.Fleet fleet.now) (prices_of prices.now) (Err e)) }
 {
-    let nets = all_nets(day, prices);
-    rows_floor(day, fleet, &nets, prices) + periods_floor(day, &nets, prices)
-}
-
-// The first no: the fleet does not fit the day, or a list has not its length, or a price is out of its limits.
-fn unready<F: Fleet>(day: &Day, fleet: &F, prices: &PriceSet) -> Option<Refusal>
-    ensures { MatchOption result (Ready (numbers_of day.now.numbers) (meaning_of (F.periods fleet.now) (F.size fleet.now) (F.node fleet.now) (F.verdict fleet.now) (F.floor fleet.now)) (prices_of prices.now)) (λ e. Told (numbers_of day.now.numbers) (meaning_of (F.periods fleet.now) (F.size fleet.now) (F.node fleet.now) (F.verdict fleet.now) (F.floor fleet.now)) (prices_of prices.now) (Err e)) }
-{
-    match place(day, fleet) {
-        Ok(()) => match price_lengths(day, fleet, prices) {
-            Ok(()) => out_of_range(prices, day.numbers.periods),
-            Err(refusal) => Some(refusal),
-        },
-        Err(refusal) => Some(refusal),
-    }
+    place(day, fleet)?;
+    price_lengths(day, fleet, prices)?;
+    in_range(prices, day.numbers.periods)?;
+    Ok(Offer { day, fleet, prices })
 }
 
 // The floor that a price set gives, if it is in range; else the first no.
 pub fn bound<F: Fleet>(day: &Day, fleet: &F, prices: &PriceSet) -> Result<Grains, Refusal>
-    ensures { Told (numbers_of day.now.numbers) (meaning_of (F.periods fleet.now) (F.size fleet.now) (F.node fleet.now) (F.verdict fleet.now) (F.floor fleet.now)) (prices_of prices.now) result }
+    ensures { Told (numbers_of day.now.numbers) (meaning F.Fleet fleet.now) (prices_of prices.now) result }
 {
-    match unready(day, fleet, prices) {
-        Some(refusal) => Err(refusal),
-        None => Ok(floor_of(day, fleet, prices)),
-    }
+    Ok(offered(day, fleet, prices)?.floor())
 }

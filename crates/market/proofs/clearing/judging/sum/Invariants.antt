@@ -3,5 +3,5 @@ use Rattle.market.specs.Scans.{at}
 use Rattle.market.specs.Totals.{total}
 use Rattle.market.proofs.clearing.judging.sum.Given as goal
 
-abbrev pub invariant-loop-node : goal.invariant-loop-node
-invariant-loop-node l = l.all.0 ≡ total l.node (λ k. at l.fed k)
+abbrev pub invariant-loop-power : goal.invariant-loop-power
+invariant-loop-power l = l.all.0 ≡ total l.power-index (at l.fed)
