@@ -1,5 +1,5 @@
 -- A period's market rules, told by what the nodes feed in. Assumes nothing.
-use Rattle.std.proofs.Common.{◌≡◌, ℕ, ◌*◌, ◌<◌, ◌≤◌, List, ℤ, pos, ◌-ℤ◌, ◌*ℤ◌, ◌≤ℤ◌, Ok, Err, Result, sym, ap, ◌∙◌, subst, arith, w32, to_z, of_z}
+use Rattle.std.proofs.Common.{◌≡◌, ℕ, ◌<◌, List, ℤ, pos, ◌-ℤ◌, ◌*ℤ◌, ◌≤ℤ◌, Ok, Err, Result, sym, ap, ◌∙◌, subst, arith}
 use Rattle.std.proofs.lemmas.Int.{ints}
 use Rattle.market.specs.declared.refusal.Refusal.{Refusal}
 use Rattle.market.specs.Clearing.{Plan, RowsKept, Balanced, LinesKept, Cleared, BreaksFirst, upper_limit, lower_limit, factor, supply, demand, flow}
@@ -7,7 +7,7 @@ use Rattle.market.specs.Days.{Numbers}
 use Rattle.market.specs.Fleet.{Meaning}
 use Rattle.market.specs.Injections.{Fed, flow_of, KeptBefore, LineBroken, over, under, LinesTold}
 use Rattle.market.specs.Judging.{PeriodTold}
-use Rattle.market.specs.Scans.{at, Within}
+use Rattle.market.specs.Scans.{at}
 use Rattle.market.specs.Totals.{total}
 use Rattle.market.proofs.Injections.{flow_gathered, balance_gathered}
 use Rattle.market.proofs.Totals.{total_cong}

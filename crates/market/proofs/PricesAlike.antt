@@ -1,12 +1,12 @@
 -- One answer alone tells what is so of a price set, and fleets that no question tells apart get the same. Assumes nothing.
-use Rattle.std.proofs.Common.{◌≡◌, ℕ, ◌+◌, ◌*◌, ◌/◌, ◌%◌, ◌<◌, List, map, ℤ, pos, ◌+ℤ◌, ◌-ℤ◌, ◌≤ℤ◌, Some, None, Ok, Err, Option, Result, sym, refl, ap, ◌∙◌, subst, ⊎_elim}
+use Rattle.std.proofs.Common.{◌≡◌, ℕ, ◌+◌, ◌*◌, ◌/◌, ◌%◌, ◌<◌, List, map, ℤ, pos, ◌+ℤ◌, ◌-ℤ◌, ◌≤ℤ◌, Ok, Err, Result, sym, refl, ap, ◌∙◌, subst, ⊎_elim}
 use Rattle.std.proofs.lemmas.Nat.{div-mul-add, mod-mul-add}
 use Rattle.std.proofs.lemmas.Bool.{cases_order}
 use Rattle.measures.specs.Amounts.{grains}
 use Rattle.measures.specs.declared.Grains.{Grains}
 use Rattle.market.specs.declared.refusal.Refusal.{Refusal}
 use Rattle.market.specs.declared.refusal.Refusal.TheVariants.{Price}
-use Rattle.market.specs.Bounding.{Over, over, OutOfRange, system, upper, lower, rise, fall, PricesFit, Refused, unplaced, lengths, range, Answered, Told, Ready, RangesTold, loads_pay, limits_come}
+use Rattle.market.specs.Bounding.{Over, over, OutOfRange, system, upper, lower, rise, fall, PricesFit, Refused, unplaced, lengths, range, Answered, Told, loads_pay, limits_come}
 use Rattle.market.specs.Clearing.{Plan, PriceSet, Placed, Sized, InRange, Lawful, cost, floor, range as periods-from, net_price, row_prices, part}
 use Rattle.market.specs.Days.{Numbers, Made}
 use Rattle.market.specs.Fleet.{Meaning, Facts, Same}

@@ -1,5 +1,5 @@
 -- The rows of a plan, judged one after another. Assumes nothing.
-use Rattle.std.proofs.Common.{◌≡◌, ℕ, suc, ◌+◌, ◌-◌, ◌*◌, ◌<◌, ◌≤◌, take, drop, ℤ, ◌+ℤ◌, is_ok, Ok, Err, Result, sym, ap, ◌∙◌, subst, mul-le-mul_right, arith, below_more}
+use Rattle.std.proofs.Common.{◌≡◌, ℕ, suc, ◌+◌, ◌*◌, ◌<◌, ◌≤◌, ℤ, ◌+ℤ◌, is_ok, Ok, Err, Result, sym, ap, ◌∙◌, subst, mul-le-mul_right, arith, below_more}
 use Rattle.std.proofs.lemmas.Int.{ints}
 use Rattle.std.proofs.lemmas.Bool.{cond-true, and_from, lt-ltb, eq-eqb}
 use Rattle.measures.specs.declared.Grains.{Grains}

@@ -4,7 +4,7 @@ use Rattle.std.proofs.lemmas.List.{length-append}
 use Rattle.std.proofs.lemmas.Slice.Zip.{zip_turn, zip_end}
 use Rattle.std.specs.Iterator.Adapters.{zip_first, zip_second}
 use Rattle.std.specs.Slice.Iter.{iter_rest}
-use Rattle.market.specs.Clearing.{part, factor}
+use Rattle.market.specs.Clearing.{factor}
 use Rattle.market.specs.Days.{Made, numbers_of}
 use Rattle.market.specs.Scans.{Within, at}
 use Rattle.market.specs.Totals.{total}

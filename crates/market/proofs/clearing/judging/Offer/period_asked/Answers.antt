@@ -1,4 +1,4 @@
-use Rattle.std.proofs.Common.{◌≡◌, ℕ, ◌*◌, List, take, ℤ, pos, ◌∙◌, ◌<◌, ◌≤◌, length, sym, ap, subst, arith, w32, of_z}
+use Rattle.std.proofs.Common.{◌≡◌, ℕ, List, take, ℤ, pos, ◌∙◌, ◌<◌, length, sym, ap, arith}
 use Rattle.std.proofs.lemmas.Bool.{both_ways, not-true, not-false}
 use Rattle.std.proofs.lemmas.Bool.Decides.{Decides-int_eq}
 use Rattle.std.proofs.lemmas.List.{length-take, get_or-take}

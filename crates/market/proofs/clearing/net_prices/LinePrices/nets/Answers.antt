@@ -35,9 +35,9 @@ loop-cell-preserved c =
     let s = prices_of c.args.self.prices.now in
     let small = net_before_small d s (made i) c.args.self.priced _ _ c.args.self.day.now.numbers.lines (node_in i) (period_in i) (omega arith) in
     let same : to_z w64 (of_z w64 c.net_price.result.0) ≡ net_price d s (c.loop-cell.cell / c.args.self.day.now.numbers.periods) (c.loop-cell.cell % c.args.self.day.now.numbers.periods) = omega (arith, ints, c.net_price.ensures) in (
-      length-set _ _ _ ∙ c.loop-cell.cellnvariant.0,
-      set_more (λ k z. z ≡ net_price d s (k / c.args.self.day.now.numbers.periods) (k % c.args.self.day.now.numbers.periods)) _ _ _ (omega (arith, c.loop-cell.cellnvariant.0, cell_in i)) c.loop-cell.cellnvariant.1 same,
+      length-set _ _ _ ∙ c.loop-cell.invariant.0,
+      set_more (λ k z. z ≡ net_price d s (k / c.args.self.day.now.numbers.periods) (k % c.args.self.day.now.numbers.periods)) _ _ _ (omega (arith, c.loop-cell.invariant.0, cell_in i)) c.loop-cell.invariant.1 same,
     )
 
 pub invariant_of-result : goal.invariant_of-result
-invariant_of-result c = record { netted = record { long = c.loop-cell.cellnvariant.0; told = λ i h. c.loop-cell.cellnvariant.1 i (omega arith) } }
+invariant_of-result c = record { netted = record { long = c.loop-cell.invariant.0; told = λ i h. c.loop-cell.invariant.1 i (omega arith) } }
