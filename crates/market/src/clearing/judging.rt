@@ -76,6 +76,13 @@ fn factors<'a>(day: &Day<'a>, line: usize) -> &'a [i32]
     &day.numbers.factors[start..start + day.numbers.nodes]
 }
 
+// What of the power fed in at a node flows over a line: the whole factor times the power.
+fn share(factor: i32, power: i32) -> Flow
+    ensures { result.0 ≡ factor *ℤ power }
+{
+    Factor(factor) * Tenths(power)
+}
+
 // The flow over a line of what the nodes feed in: whole factors, summed before anything is compared.
 fn flow(day: &Day, line: usize, fed: &[i32]) -> Flow
     requires few { (line < day.now.numbers.lines) × (day.now.numbers.nodes ≡ length fed.now) }
@@ -84,7 +91,7 @@ fn flow(day: &Day, line: usize, fed: &[i32]) -> Flow
 {
     let mut all = Flow(0);
     for (factor, power) in factors(day, line).iter().zip(fed) {
-        all = all + Factor(*factor) * Tenths(*power);
+        all = all + share(*factor, *power);
     }
     all
 }

@@ -54,12 +54,6 @@ weighed c =
     let h : to_z w32 (of_z w32 c.in-Some.power.now) ≡ at c.args.fed.now (length c.loop-factor.yielded) = omega (arith, ints, t.power) in
     λ j. e j *ℤ h j
 
-pub mul-requires : goal.mul-requires
-mul-requires c =
-    let i = (goal.at.mul-requires c).In-Some in
-    let p = subst (Within 680000000) (sym (weighed i)) (term_small i _ (turn i).node) in
-    omega (arith, ints)
-
 -- what is summed up so far
 so_far : (c : In-Some) → Within (length c.loop-factor.yielded * 680000000) c.loop-factor.all.0
 so_far c =
@@ -72,12 +66,12 @@ add-all-requires c =
     let a = so_far i in
     let p = subst (Within 680000000) (sym (weighed i)) (term_small i _ (turn i).node) in
     let few = (made i).shape.nodes.1 in
-    omega (arith, ints, c.mul.ensures, (turn i).node)
+    omega (arith, ints, c.share.ensures, (turn i).node)
 
 pub loop-factor-preserved : goal.loop-factor-preserved
 loop-factor-preserved c =
     let i = (goal.at.loop-factor-preserved c).In-Some in
-    rw (length-append c.loop-factor.yielded ((c.in-Some.factor, c.in-Some.power) ∷ [])) (c.add-all.ensures ∙ (λ j. c.loop-factor.invariant j +ℤ (c.mul.ensures ∙ weighed i) j) ∙ sym (total_more (length c.loop-factor.yielded) (term i)))
+    rw (length-append c.loop-factor.yielded ((c.in-Some.factor, c.in-Some.power) ∷ [])) (c.add-all.ensures ∙ (λ j. c.loop-factor.invariant j +ℤ (c.share.ensures ∙ weighed i) j) ∙ sym (total_more (length c.loop-factor.yielded) (term i)))
 
 pub returns : goal.returns
 returns c =
