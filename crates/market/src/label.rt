@@ -17,6 +17,7 @@ impl fmt::Display for Label {
     }
 }
 
+// Two tables of numbers: one of 96 labels was tried, and the check takes it apart entry by entry, so that its rule is not computed.
 const HOURS: [u8; 96] = [
     0, 0, 0, 1, 1, 1, 1, 2, 2, 2, 2, 3, 3, 3, 3, 4, 4, 4, 4, 5, 5, 5, 5, 6, 6, 6, 6, 7, 7, 7, 7, 8,
     8, 8, 8, 9, 9, 9, 9, 10, 10, 10, 10, 11, 11, 11, 11, 12, 12, 12, 12, 13, 13, 13, 13, 14, 14,
