@@ -1,12 +1,13 @@
 -- A table of fixed schedules shows the facts of a fleet. Assumes nothing.
-use Rattle.std.proofs.Common.{◌≡◌, ℕ, ◌*◌, ◌<◌, ◌≤◌, eqb, List, length, get_or, ℤ, pos, ◌-ℤ◌, ◌*ℤ◌, ◌≤ℤ◌, None, Ok, sym, refl, ap, ◌∙◌, subst, arith}
+use Rattle.std.proofs.Common.{◌≡◌, ℕ, ◌*◌, ◌<◌, ◌≤◌, eqb, List, length, get_or, ℤ, pos, neg_ℤ, ◌-ℤ◌, ◌*ℤ◌, ◌≤ℤ◌, None, Ok, sym, refl, ap, ◌∙◌, subst, arith}
 use Rattle.std.proofs.lemmas.Int.{ints}
 use Rattle.measures.specs.declared.Grains.{Grains}
 use Rattle.market.specs.Fleet.{Schedule, Facts, Reserved}
-use Rattle.market.specs.Scans.{Within, at}
+use Rattle.market.specs.Clearing.{part}
+use Rattle.market.specs.Scans.{Within, InBefore, at}
 use Rattle.market.specs.Totals.{total}
 use Rattle.market.specs.declared.refusal.Broken.{Broken}
-use Rattle.market.proofs.Cells.{place_below}
+use Rattle.market.proofs.Cells.{place_below, length_part, at_part}
 use Rattle.market.proofs.Ints.{times_within}
 use Rattle.market.proofs.Scanning.{decides_in}
 use Rattle.market.proofs.Totals.{total_cong, total_within, total_zero}
@@ -26,20 +27,32 @@ floor_joined n x few h = (omega (arith, ints), omega (arith, ints))
 sound_joined : (c x y : ℤ) → c ≡ pos 0 → x ≡ y → (pos 0 -ℤ x) ≤ℤ (c -ℤ y)
 sound_joined c x y e g = omega (arith, ints)
 
+-- a row's fixed outputs, each within its limits
+module _ (outputs : List ℤ) (fits : InBefore (neg_ℤ (pos 20000)) (pos 20000) outputs (length outputs)) where
+  -- what the row earns in a period, and in the first n
+  pub term_small : (net : ℤ) (t : ℕ) → t < length outputs → Within 17000000000 net → Within 340000000000000 (net *ℤ at outputs t)
+  term_small net t h w = times_within net (at outputs t) 17000000000 20000 w (fits t h)
+
+  pub earned_small : (net : List ℤ) (n : ℕ) → n ≤ length outputs → ((t : ℕ) → t < length outputs → Within 17000000000 (at net t)) → Within (n * 340000000000000) (total n (λ t. at net t *ℤ at outputs t))
+  earned_small net n l limits = total_within n 340000000000000 (λ t. at net t *ℤ at outputs t) (λ t h. term_small (at net t) t (omega arith) (limits t (omega arith)))
+
 module _ (f : Table) (made : Made f) where
+  -- row r's part of the outputs: a cell for each period, each within its limits, and the fixed output in each
+  pub part_long : (r : ℕ) → r < length f.nodes → length (part f.periods r f.outputs) ≡ f.periods
+  part_long r h = length_part f.periods r (length f.nodes) f.outputs h made.shape.lengths.all
+
+  pub part_fits : (r : ℕ) → r < length f.nodes → InBefore (neg_ℤ (pos 20000)) (pos 20000) (part f.periods r f.outputs) (length (part f.periods r f.outputs))
+  part_fits r h t l =
+      let k : t < f.periods = omega (arith, part_long r h) in
+      subst (Within 20000) (sym (at_part f.periods r t f.outputs (pos 0) k)) (made.outputs _ (omega (arith, made.shape.lengths.all, place_below r (length f.nodes) f.periods t h k)))
+
   fixed_small : (r t : ℕ) → r < length f.nodes → t < f.periods → Within 20000 (fixed_at f r t)
   fixed_small r t hr ht = made.outputs _ (omega (arith, made.shape.lengths.all, place_below r (length f.nodes) f.periods t hr ht))
 
-  -- what a row earns in a period, and in the first n
-  pub term_small : (net : ℤ) (r t : ℕ) → r < length f.nodes → t < f.periods → Within 17000000000 net → Within 340000000000000 (net *ℤ fixed_at f r t)
-  term_small net r t hr ht h = times_within net (fixed_at f r t) 17000000000 20000 h (fixed_small r t hr ht)
-
-  pub earned_small : (r : ℕ) (net : List ℤ) (n : ℕ) → r < length f.nodes → n ≤ f.periods → ((t : ℕ) → t < f.periods → Within 17000000000 (at net t)) → Within (n * 340000000000000) (total n (λ t. at net t *ℤ fixed_at f r t))
-  earned_small r net n hr hn limits = total_within n 340000000000000 (λ t. at net t *ℤ fixed_at f r t) (λ t h. term_small (at net t) r t hr (omega arith) (limits t (omega arith)))
-
   -- minus what a row earns in all
-  pub minus_small : (r : ℕ) (net : List ℤ) (x : ℤ) → r < length f.nodes → ((t : ℕ) → t < f.periods → Within 17000000000 (at net t)) → x ≡ total f.periods (λ t. at net t *ℤ fixed_at f r t) → Within 50000000000000000 (pos 0 -ℤ x)
-  minus_small r net x hr limits e = floor_joined f.periods x made.shape.day.1 (subst (Within (f.periods * 340000000000000)) (sym e) (earned_small r net f.periods hr (omega arith) limits))
+  minus_small : (r : ℕ) (net : List ℤ) → r < length f.nodes → ((t : ℕ) → t < f.periods → Within 17000000000 (at net t)) → Within 50000000000000000 (pos 0 -ℤ total f.periods (λ t. at net t *ℤ fixed_at f r t))
+  minus_small r net hr limits =
+      floor_joined f.periods _ made.shape.day.1 (total_within f.periods 340000000000000 (λ t. at net t *ℤ fixed_at f r t) (λ t h. times_within (at net t) (fixed_at f r t) 17000000000 20000 (limits t h) (fixed_small r t hr h)))
 
   -- what a verdict on row r tells
   lawful : (r : ℕ) (s : Schedule) (c : Grains) → (fixed f).verdict r s ≡ Ok c → LawfulAt (rule_at f r s) (λ _. pos 0) f.periods c
@@ -60,7 +73,7 @@ module _ (f : Table) (made : Made f) where
     few = made.shape.lengths.few;
     outputs = λ r s c h fits e t k. subst (Within 20000) (sym (outputs_are r s c e t k)) (fixed_small r t h k);
     costs = λ r s c h fits e. subst (Within 10000000000000000) (sym (free r s c e)) (omega (arith, ints));
-    floors = λ r q h p. minus_small r q.net _ h p.net_limit refl;
+    floors = λ r q h p. minus_small r q.net h p.net_limit;
     rules = λ r s e h fits is. broken_rule r s e (subst (Tells (rule_at f r s) (λ _. pos 0) f.periods) is (verdict_tells (rule_at f r s) (λ _. pos 0) f.periods));
     sound = λ r s q c h fits p e. sound_joined c.0 (total f.periods (λ t. at q.net t *ℤ fixed_at f r t)) _ (free r s c e) (total_cong f.periods _ _ (λ t k. ap (λ x. at q.net t *ℤ x) (sym (outputs_are r s c e t k))));
   }
