@@ -1,5 +1,5 @@
 -- A table of fixed schedules shows the facts of a fleet. Assumes nothing.
-use Rattle.std.proofs.Common.{◌≡◌, ℕ, ◌*◌, ◌<◌, ◌≤◌, eqb, List, length, get_or, ℤ, pos, neg_ℤ, ◌-ℤ◌, ◌*ℤ◌, ◌≤ℤ◌, None, Ok, sym, refl, ap, ◌∙◌, subst, arith}
+use Rattle.std.proofs.Common.{◌≡◌, ℕ, ◌*◌, ◌<◌, ◌≤◌, eqb, List, length, get_or, ℤ, pos, neg_ℤ, ◌-ℤ◌, ◌*ℤ◌, ◌≤ℤ◌, None, Ok, Option, sym, refl, ap, ◌∙◌, subst, arith}
 use Rattle.std.proofs.lemmas.Int.{ints}
 use Rattle.measures.specs.declared.Grains.{Grains}
 use Rattle.market.specs.Fleet.{Schedule, Facts, Reserved}
@@ -12,9 +12,10 @@ use Rattle.market.proofs.Ints.{times_within}
 use Rattle.market.proofs.Scanning.{decides_in}
 use Rattle.market.proofs.Totals.{total_cong, total_within, total_zero}
 use Rattle.kinds.specs.Fixed.{Table, Made, fixed, fixed_at, is_test, rule_in, rule_at}
-use Rattle.kinds.specs.Verdicts.{Tells, LawfulAt, BreaksFirst, breaks}
+use Rattle.kinds.specs.Rules.{running_rule}
+use Rattle.kinds.specs.Verdicts.{verdict_over, Tells, LawfulAt, BreaksFirst, breaks}
 use Rattle.kinds.proofs.Running.{both_kept, which_broken, unreserved}
-use Rattle.kinds.proofs.Verdicts.{verdict_tells}
+use Rattle.kinds.proofs.Verdicts.{verdict_tells, verdict_same}
 
 -- a period that breaks no rule has the fixed output
 output_is : (x : ℤ) (mark : ℕ) (o : ℤ) → rule_in x mark o ≡ None → o ≡ x
@@ -26,6 +27,9 @@ floor_joined n x few h = (omega (arith, ints), omega (arith, ints))
 
 sound_joined : (c x y : ℤ) → c ≡ pos 0 → x ≡ y → (pos 0 -ℤ x) ≤ℤ (c -ℤ y)
 sound_joined c x y e g = omega (arith, ints)
+
+pub nothing_small : Within 4000000000000 (pos 0)
+nothing_small = (omega (arith, ints), omega (arith, ints))
 
 -- a row's fixed outputs, each within its limits
 module _ (outputs : List ℤ) (fits : InBefore (neg_ℤ (pos 20000)) (pos 20000) outputs (length outputs)) where
@@ -46,11 +50,26 @@ module _ (f : Table) (made : Made f) where
       let k : t < f.periods = omega (arith, part_long r h) in
       subst (Within 20000) (sym (at_part f.periods r t f.outputs (pos 0) k)) (made.outputs _ (omega (arith, made.shape.lengths.all, place_below r (length f.nodes) f.periods t h k)))
 
+  -- what the part says of row r's verdict, and of what it earns
+  pub row_verdict : (r : ℕ) (s : Schedule) (xs : List ℤ) → r < length f.nodes → xs ≡ part f.periods r f.outputs
+      → verdict_over (λ t. running_rule (get_or s.marks t 0) (is_test (at xs t) (at s.outputs t))) (λ _. pos 0) (length xs) ≡ (fixed f).verdict r s
+  row_verdict r s xs h e =
+      ap (verdict_over (λ t. running_rule (get_or s.marks t 0) (is_test (at xs t) (at s.outputs t))) (λ _. pos 0)) (ap length e ∙ part_long r h)
+      ∙ verdict_same _ (rule_at f r s) _ (λ _. pos 0) f.periods (λ t k. ap (rule_of s t) (ap (λ ys. at ys t) e ∙ at_part f.periods r t f.outputs (pos 0) k)) (λ t k. refl)
+    where
+      rule_of : Schedule → ℕ → ℤ → Option ℕ
+      rule_of s t x = rule_in x (get_or s.marks t 0) (at s.outputs t)
+
+  pub row_earned : (r : ℕ) (net xs : List ℤ) → r < length f.nodes → xs ≡ part f.periods r f.outputs → total (length xs) (λ t. at net t *ℤ at xs t) ≡ total f.periods (λ t. at net t *ℤ fixed_at f r t)
+  row_earned r net xs h e =
+      ap (λ n. total n (λ t. at net t *ℤ at xs t)) (ap length e ∙ part_long r h)
+      ∙ total_cong f.periods _ _ (λ t k. ap (λ x. at net t *ℤ x) (ap (λ ys. at ys t) e ∙ at_part f.periods r t f.outputs (pos 0) k))
+
   fixed_small : (r t : ℕ) → r < length f.nodes → t < f.periods → Within 20000 (fixed_at f r t)
   fixed_small r t hr ht = made.outputs _ (omega (arith, made.shape.lengths.all, place_below r (length f.nodes) f.periods t hr ht))
 
   -- minus what a row earns in all
-  minus_small : (r : ℕ) (net : List ℤ) → r < length f.nodes → ((t : ℕ) → t < f.periods → Within 17000000000 (at net t)) → Within 50000000000000000 (pos 0 -ℤ total f.periods (λ t. at net t *ℤ fixed_at f r t))
+  pub minus_small : (r : ℕ) (net : List ℤ) → r < length f.nodes → ((t : ℕ) → t < f.periods → Within 17000000000 (at net t)) → Within 50000000000000000 (pos 0 -ℤ total f.periods (λ t. at net t *ℤ fixed_at f r t))
   minus_small r net hr limits =
       floor_joined f.periods _ made.shape.day.1 (total_within f.periods 340000000000000 (λ t. at net t *ℤ fixed_at f r t) (λ t h. times_within (at net t) (fixed_at f r t) 17000000000 20000 (limits t h) (fixed_small r t hr h)))
 

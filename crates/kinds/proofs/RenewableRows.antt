@@ -1,5 +1,5 @@
 -- A table of renewable stations shows the facts of a fleet. Assumes nothing.
-use Rattle.std.proofs.Common.{◌≡◌, ℕ, ◌*◌, ◌<◌, ◌≤◌, true, eqb, List, length, get_or, ℤ, pos, ◌-ℤ◌, ◌*ℤ◌, ◌≤ℤ◌, Ok, sym, subst, arith}
+use Rattle.std.proofs.Common.{◌≡◌, ℕ, ◌*◌, ◌<◌, ◌≤◌, true, eqb, List, length, get_or, ℤ, pos, ◌-ℤ◌, ◌*ℤ◌, ◌≤ℤ◌, Ok, sym, ap, ◌∙◌, subst, arith}
 use Rattle.std.specs.Int.{int_min}
 use Rattle.std.proofs.lemmas.Int.{ints, clamps}
 use Rattle.measures.specs.declared.Grains.{Grains}
@@ -72,6 +72,10 @@ module _ (f : Table) (made : Made f) where
   -- the power available to row r has a cell for each period
   pub power_long : (r : ℕ) → r < length f.stations → length (power f r) ≡ f.periods
   power_long r h = length_part f.periods r (length f.stations) f.available h made.shape.lengths.all
+
+  -- what a row's leasts come to
+  pub row_floor : (r : ℕ) (c : CurveNumbers) (net xs : List ℤ) → r < length f.stations → c ≡ curve f r → xs ≡ power f r → total (length xs) (λ t. least_of c xs t (at net t)) ≡ total f.periods (λ t. least_at f r t (at net t))
+  row_floor r c net xs h d e = (λ j. total (length (e j)) (λ t. least_of (d j) (e j) t (at net t))) ∙ ap (λ n. total n (λ t. least_at f r t (at net t))) (power_long r h)
 
   most_below : (r t : ℕ) → r < length f.stations → t < f.periods → UpTo 20000 (most f r t) × (most f r t ≤ℤ highest (curve f r))
   most_below r t h k = most_small (curve f r) (power f r) (made.curves r h) (made.rows r h) t (omega (arith, power_long r h))

@@ -1,5 +1,5 @@
 -- The questions of a table of renewable stations, by a test and by what they mean. Assumes nothing.
-use Rattle.std.proofs.Common.{◌≡◌, ℕ, ◌+◌, ◌-◌, ◌*◌, true, length, take, drop, ℤ, pos, Ok, Err, Decides, Result, refl, ap, arith, MatchResult}
+use Rattle.std.proofs.Common.{◌≡◌, ℕ, true, length, ℤ, pos, Ok, Err, Decides, Result, refl, arith, MatchResult}
 use Rattle.std.proofs.lemmas.Int.{ints}
 use Rattle.std.proofs.lemmas.Bool.{and_parts, and_from}
 use Rattle.std.proofs.lemmas.Bool.Decides.{Decides-below_and}
@@ -51,10 +51,3 @@ module _ (f : Table) where
   pub told : ShapeFits f → CurvesFit (curve f) (length f.stations) → (r : Result (Unit {0}) TableFault) → MatchResult r (λ _. RowsFit f (length f.stations)) (NoRow f) → MatchResult r (λ _. Fits f) (Refused f)
   told s c (Ok _) h = fits s c h
   told s c (Err e) h = rows e s c h
-
--- the part of the table that a row's questions are asked of is the row's
-pub part_is : (f : Table) (r : ℕ) → take (r * f.periods + f.periods - r * f.periods) (drop (r * f.periods) f.available) ≡ power f r
-part_is f r = ap (λ n. take n (drop (r * f.periods) f.available)) (span r f.periods)
-  where
-    span : (r n : ℕ) → r * n + n - r * n ≡ n
-    span r n = omega arith

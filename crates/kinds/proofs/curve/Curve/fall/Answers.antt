@@ -1,8 +1,6 @@
-use Rattle.std.proofs.Common.{◌≡◌, true, false, ℤ, pos, ◌-ℤ◌, ◌*ℤ◌, sym, ap, ◌∙◌, arith, w64, to_z, of_z}
-use lib.Signed.{lt_z}
+use Rattle.std.proofs.Common.{◌≡◌, pos, ◌-ℤ◌, ◌*ℤ◌, ap, ◌∙◌, arith}
 use Rattle.std.specs.Int.{int_min}
 use Rattle.std.proofs.lemmas.Int.{ints}
-use Rattle.std.proofs.lemmas.Bool.{cond-true, cond-false}
 use Rattle.market.specs.Scans.{Within}
 use Rattle.kinds.specs.Curves.{Made, price, below, fall}
 use Rattle.kinds.proofs.Falls.{fall_whole_within}
