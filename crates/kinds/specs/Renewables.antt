@@ -1,19 +1,20 @@
 -- Renewable stations: a table of them, when it is one, and what it means as a fleet. Assumes nothing.
-use Rattle.std.specs.Prelude.{◌≡◌, ℕ, ◌+◌, ◌<◌, Bool, true, cond, ◌&&◌, List, [], length, ℤ, pos, Some, None, Option, ◌==◌, ◌≢◌, slice_index, slice_index_or}
+use Rattle.std.specs.Prelude.{◌≡◌, ℕ, ◌+◌, ◌<◌, Bool, true, ◌&&◌, List, [], length, ℤ, pos, Option, ◌≢◌, slice_index, slice_index_or}
 use Rattle.std.specs.Int.{int_min}
 use Rattle.measures.specs.Amounts.{grains}
 use Rattle.market.specs.Clearing.{part}
-use Rattle.market.specs.Days.{refusal}
 use Rattle.market.specs.Fleet.{Meaning, Schedule}
 use Rattle.market.specs.Scans.{at, in_test, InBefore, FirstOut, in_all, all_below}
 use Rattle.market.specs.Totals.{total}
-use Rattle.market.specs.declared.refusal.Refusal.{Refusal}
 use Rattle.kinds.specs.declared.curve_numbers.CurveNumbers.{CurveNumbers}
 use Rattle.kinds.specs.declared.station.Station.{Station}
+use Rattle.kinds.specs.declared.table_fault.TableFault.{TableFault}
+use Rattle.kinds.specs.declared.table_fault.TableFault.TheVariants.{Row, Cell}
 use Rattle.kinds.specs.Curves as Curves
 use Rattle.kinds.specs.Curves.{lowest, highest, running_cost, net_cost}
 use Rattle.kinds.specs.Leasts.{least_over}
-use Rattle.kinds.specs.Tables.{Shaped, Unshaped, shape_test}
+use Rattle.kinds.specs.Rules.{running_rule}
+use Rattle.kinds.specs.Tables.{Shaped, Unshaped, shape_test, CurvesFit, NoCurve}
 use Rattle.kinds.specs.Verdicts.{verdict_over}
 
 -- a station for each row, and available power for each row and period, row by row
@@ -30,9 +31,13 @@ table periods stations available = record { periods = periods; stations = statio
 abbrev pub no_rows : Table
 no_rows = table 1 [] []
 
--- the station of row r; past the last row, one that stands nowhere
+-- what stands past a table's end
+abbrev pub no_station : Station
+no_station = record { node = 0; curve = record { segments = 0; ends = []; prices = [] } }
+
+-- the station of row r
 abbrev pub station : List Station → ℕ → Station
-station rows r = slice_index_or rows r (record { node = 0; curve = record { segments = 0; ends = []; prices = [] } })
+station rows r = slice_index_or rows r no_station
 
 -- its curve
 abbrev pub curve : Table → ℕ → CurveNumbers
@@ -46,36 +51,28 @@ power f r = part f.periods r f.available
 abbrev pub ShapeFits : Table → Type 0
 ShapeFits f = Shaped f.periods (length f.stations) (length f.available)
 
--- every row before r has a curve
-abbrev pub CurvesFit : List Station → ℕ → Type 0
-CurvesFit rows r = (k : ℕ) → k < r → Curves.Made (station rows k).curve
-
--- e tells the first row whose curve is not one
-pub data NoCurve (rows : List Station) : Refusal → Type 0 where
-  no_curve : (r : ℕ) (e : Refusal) → r < length rows → CurvesFit rows r → Curves.Refused (station rows r).curve r e → NoCurve rows e
-
 -- a row's other numbers: its curve begins at 0, and its available power is 0 to 20,000
 pub record RowFits (c : CurveNumbers) (power : List ℤ) : Type 0 where
   pub begins : lowest c ≡ pos 0
   pub available : InBefore (pos 0) (pos 20000) power (length power)
 
 -- the first of them that is not so, in row r
-pub data RowRefused (c : CurveNumbers) (power : List ℤ) (r : ℕ) : Refusal → Type 0 where
-  begins : (lowest c ≢ pos 0) → RowRefused c power r (refusal 5 r 0)
-  available : lowest c ≡ pos 0 → (t : ℕ) → FirstOut (pos 0) (pos 20000) power t → RowRefused c power r (refusal 5 r (t + 1))
+pub data RowRefused (c : CurveNumbers) (power : List ℤ) (r : ℕ) : TableFault → Type 0 where
+  begins : (lowest c ≢ pos 0) → RowRefused c power r (Row r)
+  available : lowest c ≡ pos 0 → (t : ℕ) → FirstOut (pos 0) (pos 20000) power t → RowRefused c power r (Cell r (t + 1))
 
 -- every row before r is so
 abbrev pub RowsFit : Table → ℕ → Type 0
 RowsFit f r = (k : ℕ) → k < r → RowFits (curve f k) (power f k)
 
 -- e tells the first row that is not so
-pub data NoRow (f : Table) : Refusal → Type 0 where
-  no_row : (r : ℕ) (e : Refusal) → r < length f.stations → RowsFit f r → RowRefused (curve f r) (power f r) r e → NoRow f e
+pub data NoRow (f : Table) : TableFault → Type 0 where
+  no_row : (r : ℕ) (e : TableFault) → r < length f.stations → RowsFit f r → RowRefused (curve f r) (power f r) r e → NoRow f e
 
 -- the numbers are those of a table
 pub record Made (f : Table) : Type 0 where
   pub shape : ShapeFits f
-  pub curves : CurvesFit f.stations (length f.stations)
+  pub curves : CurvesFit (curve f) (length f.stations)
   pub rows : RowsFit f (length f.stations)
 
 -- the same as tests
@@ -92,23 +89,23 @@ pub record Fits (f : Table) : Type 0 where
   pub test : made_test f ≡ true
   pub made : Made f
 
--- the first no, where the numbers are not those of a table: its number, its row and its period
-pub data Refused (f : Table) : Refusal → Type 0 where
-  shape : (e : Refusal) → Unshaped f.periods (length f.stations) (length f.available) e → Refused f e
-  curves : (e : Refusal) → ShapeFits f → NoCurve f.stations e → Refused f e
-  rows : (e : Refusal) → ShapeFits f → CurvesFit f.stations (length f.stations) → NoRow f e → Refused f e
+-- the first no, where the numbers are not those of a table
+pub data Refused (f : Table) : TableFault → Type 0 where
+  shape : (e : TableFault) → Unshaped f.periods (length f.stations) (length f.available) e → Refused f e
+  curves : (e : TableFault) → ShapeFits f → NoCurve (curve f) (length f.stations) e → Refused f e
+  rows : (e : TableFault) → ShapeFits f → CurvesFit (curve f) (length f.stations) → NoRow f e → Refused f e
 
--- the power available to row r in period t; periods count from 0 here
-abbrev pub available_at : Table → ℕ → ℕ → ℤ
-available_at f r t = at (power f r) t
+-- the most that a row may feed in in period t: the smaller of what is available and the curve's last end; periods count from 0 here
+abbrev pub most_of : CurveNumbers → List ℤ → ℕ → ℤ
+most_of c power t = int_min (at power t) (highest c)
 
--- the most that row r may feed in in period t: the smaller of what is available and the curve's last end
+-- the same for row r
 abbrev pub most : Table → ℕ → ℕ → ℤ
-most f r t = int_min (available_at f r t) (highest (curve f r))
+most f r t = most_of (curve f r) (power f r) t
 
--- the first rule that a period breaks, if any: 10, the mark is 1; 11, the output is 0 to the most
+-- the first rule that a period breaks, if any: the output is 0 to the most
 abbrev pub rule_in : ℤ → ℕ → ℤ → Option ℕ
-rule_in most mark output = cond (mark == 1) (cond (in_test (pos 0) most output) None (Some 11)) (Some 10)
+rule_in most mark output = running_rule mark (in_test (pos 0) most output)
 
 -- the same for period t of a schedule of row r
 abbrev pub rule_at : Table → ℕ → Schedule → ℕ → Option ℕ
@@ -118,9 +115,13 @@ rule_at f r s t = rule_in (most f r t) (slice_index s.marks t) (at s.outputs t)
 abbrev pub cost_at : Table → ℕ → Schedule → ℕ → ℤ
 cost_at f r s t = running_cost (curve f r) (at s.outputs t)
 
--- the least of running cost less worth over the outputs that row r may have in period t, at the net price v
+-- the least of running cost less worth over the outputs that a row may have in period t, at the net price v
+abbrev pub least_of : CurveNumbers → List ℤ → ℕ → ℤ → ℤ
+least_of c power t v = least_over (pos 0) (most_of c power t) (net_cost c v)
+
+-- the same for row r
 abbrev pub least_at : Table → ℕ → ℕ → ℤ → ℤ
-least_at f r t v = least_over (pos 0) (most f r t) (net_cost (curve f r) v)
+least_at f r t v = least_of (curve f r) (power f r) t v
 
 -- a schedule costs its running costs, and the floor is the sum of the leasts at the net prices
 abbrev pub renewables : Table → Meaning

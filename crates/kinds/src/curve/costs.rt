@@ -67,7 +67,7 @@ impl Curve {
     {
         let slope = self.net_price(segment) - value;
         let taken = slope * (self.below(segment, high) - self.below(segment, low));
-        if taken.0 < 0 { taken } else { Grains(0) }
+        taken.min(Grains(0))
     }
 
     // The value at the low end, and what each segment takes off from there.
@@ -83,7 +83,7 @@ impl Curve {
         least
     }
 
-    // Whether the least can be asked for.
+    // Whether the least can be asked for. By the measures' own order the proof doesn't close.
     fn asked(&self, value: NetPrice, low: Tenths, high: Tenths) -> bool
         ensures { result ≡ asked_test self.now.numbers value.0 low.0 high.0 }
     {
