@@ -1,10 +1,11 @@
 -- A curve's questions, by tests and by what they mean. Assumes nothing.
-use Rattle.std.proofs.Common.{◌≡◌, ℕ, ◌+◌, ◌-◌, ◌<◌, ◌≤◌, true, ◌&&◌, leb, List, length, take, ℤ, pos, neg_ℤ, ◌≤ℤ◌, ◌<ℤ◌, Decides, sym, refl, subst, arith}
+use Rattle.std.proofs.Common.{◌≡◌, ℕ, ◌+◌, ◌-◌, ◌<◌, ◌≤◌, Bool, true, false, ◌&&◌, leb, is_le, int_cmp, List, length, take, get_or, MatchBool, ℤ, pos, neg_ℤ, ◌≤ℤ◌, ◌<ℤ◌, Decides, sym, refl, subst, arith}
 use lib.Signed.{le_z, lt_z}
 use Rattle.std.proofs.lemmas.List.{get_or-take, length-take}
 use Rattle.std.proofs.lemmas.Int.{ints}
-use Rattle.std.proofs.lemmas.Bool.{and_parts, and_from, leb-true, le-leb}
+use Rattle.std.proofs.lemmas.Bool.{and_parts, and_from, both_ways, leb-true, le-leb}
 use Rattle.std.proofs.lemmas.Bool.Decides.{Decides-below_and}
+use Rattle.std.specs.List.{AllAdjacentBelow, IsAllAdjacentAnswer}
 use Rattle.market.specs.Scans.{at, In, Within, InBefore, FirstOut, in_test, all_below}
 use Rattle.market.proofs.Scanning.{decides_in, decides_le}
 use Rattle.kinds.specs.declared.curve_numbers.CurveNumbers.{CurveNumbers}
@@ -18,6 +19,18 @@ pub front_out : (low high : ℤ) (n i : ℕ) (xs : List ℤ) → n ≤ length xs
 front_out low high n i xs within out all =
     let l : i < n = omega (arith, simp length-take at out.within) in
     out.out (subst (In low high) (sym (get_or-take n xs i (pos 0) l)) (all i l))
+
+-- what each number and the next are, from the front of a table
+front_steps : (R : ℤ → ℤ → Type 0) (n : ℕ) (xs : List ℤ) → n ≤ length xs → AllAdjacentBelow R (take n xs) (length (take n xs)) → (i : ℕ) → i + 1 < n → R (at xs i) (at xs (i + 1))
+front_steps R n xs within steps i h =
+    let s = steps i (pos 0) (simp length-take (omega arith)) in
+    subst (λ x. R x (at xs (i + 1))) (get_or-take n xs i (pos 0) (omega arith)) (subst (λ y. R (at (take n xs) i) y) (get_or-take n xs (i + 1) (pos 0) h) s)
+
+-- two neighbours of the front that are not so
+front_misstep : (R : ℤ → ℤ → Type 0) (n : ℕ) (xs : List ℤ) → n ≤ length xs → (k : ℕ) × (k + 1 < length (take n xs)) × ((d : ℤ) → R (get_or (take n xs) k d) (get_or (take n xs) (k + 1) d)) → (k : ℕ) × (k + 1 < n) × R (at xs k) (at xs (k + 1))
+front_misstep R n xs within m =
+    let l : m.0 + 1 < n = omega (arith, simp length-take at m.1) in
+    (m.0, l, subst (λ x. R x (at xs (m.0 + 1))) (get_or-take n xs m.0 (pos 0) (omega arith)) (subst (λ y. R (at (take n xs) m.0) y) (get_or-take n xs (m.0 + 1) (pos 0) l) (m.2 (pos 0))))
 
 decides_lt : (a b : ℤ) → Decides (lt_z a b) (a <ℤ b)
 decides_lt a b = (λ e. grind (arith, ints), λ h. grind (arith, ints))
@@ -76,3 +89,29 @@ asked_so c v low high e =
 pub asked_told : (c : CurveNumbers) (v low high : ℤ) → Asked c v low high → asked_test c v low high ≡ true
 asked_told c v low high a =
     and_from _ _ ((decides_in (neg_ℤ (pos 20000000000)) (pos 20000000000) v).1 a.value) (and_from _ _ ((decides_le (lowest c) low).1 a.on) (and_from _ _ ((decides_le low high).1 a.range) ((decides_le high (highest c)).1 a.under)))
+
+-- ends and prices in order, as the library tells it
+abbrev pub Rising : ℤ → ℤ → Bool → Type 0
+Rising x y b = b ≡ lt_z x y
+
+abbrev pub Climbing : ℤ → ℤ → Bool → Type 0
+Climbing x y b = is_le (int_cmp x y) ≡ b
+
+climbs : (x y : ℤ) → is_le (int_cmp x y) ≡ true → x ≤ℤ y
+climbs x y e = grind (arith, ints)
+
+falls : (x y : ℤ) → is_le (int_cmp x y) ≡ false → x ≤ℤ y → ⊥
+falls x y e h = grind (arith, ints)
+
+module _ (c : CurveNumbers) (count : CountFits c) (long : c.segments + 1 ≤ length c.ends) (wide : c.segments ≤ length c.prices) where
+  pub rises_told : AllAdjacentBelow (λ x y. Rising x y true) (take (c.segments + 1) c.ends) (length (take (c.segments + 1) c.ends)) → (b : Bool) → IsAllAdjacentAnswer Climbing (take c.segments c.prices) b → MatchBool b (Rises c) (Rises c → ⊥)
+  rises_told up true steps = record {
+    ends = λ i h. (decides_lt _ _).0 (sym (front_steps (λ x y. Rising x y true) (c.segments + 1) c.ends long up i (omega arith)));
+    prices = λ i h. climbs _ _ (front_steps (λ x y. Climbing x y true) c.segments c.prices wide steps i h);
+  }
+  rises_told up false step = λ r. let m = front_misstep (λ x y. Climbing x y false) c.segments c.prices wide step in falls _ _ m.2 (r.prices m.0 m.1)
+
+  pub steep : IsAllAdjacentAnswer Rising (take (c.segments + 1) c.ends) false → Rises c → ⊥
+  steep step r =
+      let m = front_misstep (λ x y. Rising x y false) (c.segments + 1) c.ends long step in
+      both_ways (lt_z (at c.ends m.0) (at c.ends (m.0 + 1))) (sym m.2) ((decides_lt _ _).1 (r.ends m.0 (omega arith)))

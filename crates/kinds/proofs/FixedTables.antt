@@ -1,9 +1,9 @@
 -- The questions of a table of fixed schedules, by a test and by what they mean. Assumes nothing.
 use Rattle.std.proofs.Common.{◌≡◌, ℕ, ◌+◌, ◌/◌, ◌%◌, true, length, pos, neg_ℤ, sym, subst, mod-lt, div-add-mod'}
 use Rattle.std.proofs.lemmas.Bool.{and_parts, and_from}
-use Rattle.market.specs.Days.{refusal}
 use Rattle.market.specs.Scans.{FirstOut}
 use Rattle.market.proofs.Scanning.{decides_all}
+use Rattle.kinds.specs.declared.table_fault.TableFault.TheVariants.{Cell}
 use Rattle.kinds.specs.Fixed.{Table, Made, Fits, Refused, row_output, ShapeFits, OutputsFit, made_test}
 use Rattle.kinds.specs.Tables.{shape_test}
 use Rattle.kinds.proofs.Shapes.{decides_shape}
@@ -21,6 +21,6 @@ module _ (f : Table) where
   }
 
   -- a cell by its row and its period
-  pub refused_output : ShapeFits f → (i : ℕ) → FirstOut (neg_ℤ (pos 20000)) (pos 20000) f.outputs i → Refused f (refusal 5 (i / f.periods) (i % f.periods + 1))
+  pub refused_output : ShapeFits f → (i : ℕ) → FirstOut (neg_ℤ (pos 20000)) (pos 20000) f.outputs i → Refused f (Cell (i / f.periods) (i % f.periods + 1))
   refused_output h i out =
       row_output h (i / f.periods) (i % f.periods) (mod-lt i h.day.0) (subst (FirstOut _ _ f.outputs) (sym (div-add-mod' i f.periods)) out)

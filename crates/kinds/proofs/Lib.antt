@@ -1,3 +1,4 @@
+pub mod Telling
 pub mod Fitting
 pub mod Verdicts
 pub mod Joining

@@ -1,10 +1,10 @@
 -- The first two questions of a table, by tests and by what they mean. Assumes nothing.
-use Rattle.std.proofs.Common.{◌≡◌, ℕ, ◌*◌, Bool, true, false, cond, ◌&&◌, eqb, leb, Some, None, Decides, Option, sym, refl, subst, MatchOption}
+use Rattle.std.proofs.Common.{◌≡◌, ℕ, ◌*◌, ◌≤◌, Bool, true, false, ◌&&◌, eqb, leb, Decides, Result, sym, refl, subst, MatchResult}
 use Rattle.std.proofs.lemmas.Bool.{and_parts, and_from, both_ways, leb-true, le-leb, eqb-true, eq-eqb}
-use Rattle.market.specs.Days.{refusal}
-use Rattle.market.specs.declared.refusal.Refusal.{Refusal}
+use Rattle.kinds.specs.declared.table_fault.TableFault.{TableFault}
+use Rattle.kinds.specs.declared.table_fault.TableFault.TheVariants.{Periods, Sizes}
 use Rattle.kinds.specs.Tables as Tables
-use Rattle.kinds.specs.Tables.{PeriodsFit, LengthsFit, Shaped, Unshaped, shape_test, shape_fault}
+use Rattle.kinds.specs.Tables.{PeriodsFit, LengthsFit, Shaped, Unshaped, shape_test, first_told, shape_told, rows_told}
 
 module _ (periods rows cells : ℕ) where
   decides_periods : Decides (leb 1 periods && leb periods 96) (PeriodsFit periods)
@@ -26,11 +26,28 @@ module _ (periods rows cells : ℕ) where
   )
 
   told_by : (a b : Bool) → (leb 1 periods && leb periods 96) ≡ a → (leb rows 32 && eqb cells (rows * periods)) ≡ b
-      → MatchOption (cond a (cond b None (Some (refusal 2 0 0))) (Some (refusal 1 0 0))) (Shaped periods rows cells) (Unshaped periods rows cells)
+      → MatchResult (first_told a b) (λ _. Shaped periods rows cells) (Unshaped periods rows cells)
   told_by true true s t = record { day = decides_periods.0 s; lengths = decides_lengths.0 t }
   told_by true false s t = Tables.lengths (decides_periods.0 s) (λ h. both_ways (leb rows 32 && eqb cells (rows * periods)) t (decides_lengths.1 h))
   told_by false b s t = Tables.day (λ h. both_ways (leb 1 periods && leb periods 96) s (decides_periods.1 h))
 
   -- what the computation tells
-  pub shape_told : (o : Option Refusal) → o ≡ shape_fault periods rows cells → MatchOption o (Shaped periods rows cells) (Unshaped periods rows cells)
-  shape_told o e = subst (λ x. MatchOption x (Shaped periods rows cells) (Unshaped periods rows cells)) (sym e) (told_by _ _ refl refl)
+  pub shape_so : (o : Result (Unit {0}) TableFault) → o ≡ shape_told periods rows cells → MatchResult o (λ _. Shaped periods rows cells) (Unshaped periods rows cells)
+  shape_so o e = subst (λ x. MatchResult x (λ _. Shaped periods rows cells) (Unshaped periods rows cells)) (sym e) (told_by _ _ refl refl)
+
+-- a table that has no cells: e tells which of the two questions has the answer no
+abbrev pub Crowded : ℕ → ℕ → TableFault → Type 0
+Crowded periods rows Periods = PeriodsFit periods → ⊥
+Crowded periods rows Sizes = PeriodsFit periods × (rows ≤ 32 → ⊥)
+Crowded periods rows _ = ⊥
+
+module _ (periods rows : ℕ) where
+  few_by : (a b : Bool) → (leb 1 periods && leb periods 96) ≡ a → leb rows 32 ≡ b
+      → MatchResult (first_told a b) (λ _. PeriodsFit periods × (rows ≤ 32)) (Crowded periods rows)
+  few_by true true s t = ((decides_periods periods rows rows).0 s, leb-true _ _ t)
+  few_by true false s t = ((decides_periods periods rows rows).0 s, λ h. both_ways (leb rows 32) t (le-leb _ _ h))
+  few_by false b s t = λ h. both_ways (leb 1 periods && leb periods 96) s ((decides_periods periods rows rows).1 h)
+
+  -- what the computation tells
+  pub rows_so : (o : Result (Unit {0}) TableFault) → o ≡ rows_told periods rows → MatchResult o (λ _. PeriodsFit periods × (rows ≤ 32)) (Crowded periods rows)
+  rows_so o e = subst (λ x. MatchResult x (λ _. PeriodsFit periods × (rows ≤ 32)) (Crowded periods rows)) (sym e) (few_by _ _ refl refl)

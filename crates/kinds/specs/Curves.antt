@@ -3,10 +3,10 @@ use Rattle.std.specs.Prelude.{◌≡◌, ℕ, ◌+◌, ◌-◌, ◌<◌, ◌≤�
 use Rattle.std.specs.Int.{int_min, int_max}
 use Rattle.measures.specs.Amounts.{grains}
 use Rattle.measures.specs.declared.Grains.{Grains}
-use Rattle.market.specs.declared.refusal.Refusal.{Refusal}
-use Rattle.market.specs.Days.{refusal}
 use Rattle.market.specs.Scans.{at, Within, UpTo, in_test, all_below}
 use Rattle.market.specs.Totals.{total}
+use Rattle.kinds.specs.declared.curve_fault.CurveFault.{CurveFault}
+use Rattle.kinds.specs.declared.curve_fault.CurveFault.TheVariants.{Count, Range, Order}
 use Rattle.kinds.specs.declared.curve_numbers.CurveNumbers.{CurveNumbers}
 use Rattle.kinds.specs.Leasts.{least_over}
 
@@ -50,11 +50,11 @@ pub record Fits (c : CurveNumbers) : Type 0 where
   pub test : made_test c ≡ true
   pub made : Made c
 
--- the first no, where the numbers are not those of a curve: its number, and the place of the row which the curve is part of
-pub data Refused (c : CurveNumbers) (place : ℕ) : Refusal → Type 0 where
-  count : (CountFits c → ⊥) → Refused c place (refusal 2 place 0)
-  ranges : CountFits c → (RangesFit c → ⊥) → Refused c place (refusal 5 place 0)
-  order : CountFits c → RangesFit c → (Rises c → ⊥) → Refused c place (refusal 7 place 0)
+-- the first no, where the numbers are not those of a curve
+pub data Refused (c : CurveNumbers) : CurveFault → Type 0 where
+  count : (CountFits c → ⊥) → Refused c Count
+  ranges : CountFits c → (RangesFit c → ⊥) → Refused c Range
+  order : CountFits c → RangesFit c → (Rises c → ⊥) → Refused c Order
 
 -- the part of segment i that lies below p
 unfoldable pub below : CurveNumbers → ℕ → ℤ → ℤ

@@ -1,11 +1,11 @@
 -- Fixed schedules: a table of them, when it is one, and what it means as a fleet. Assumes nothing.
 use Rattle.std.specs.Prelude.{◌≡◌, ℕ, ◌+◌, ◌*◌, ◌<◌, Bool, true, cond, ◌&&◌, List, [], length, ℤ, pos, ◌-ℤ◌, ◌*ℤ◌, neg_ℤ, Some, None, Option, ◌==◌, slice_index}
 use Rattle.measures.specs.Amounts.{grains}
-use Rattle.market.specs.Days.{refusal}
 use Rattle.market.specs.Fleet.{Meaning, Schedule}
 use Rattle.market.specs.Scans.{at, in_test, InBefore, FirstOut, in_all}
 use Rattle.market.specs.Totals.{total}
-use Rattle.market.specs.declared.refusal.Refusal.{Refusal}
+use Rattle.kinds.specs.declared.table_fault.TableFault.{TableFault}
+use Rattle.kinds.specs.declared.table_fault.TableFault.TheVariants.{Cell}
 use Rattle.kinds.specs.Tables.{Shaped, Unshaped, shape_test}
 use Rattle.kinds.specs.Verdicts.{verdict_over}
 
@@ -44,10 +44,10 @@ pub record Fits (f : Table) : Type 0 where
   pub test : made_test f ≡ true
   pub made : Made f
 
--- the first no, where the numbers are not those of a table: its number, its row and its period
-pub data Refused (f : Table) : Refusal → Type 0 where
-  shape : (e : Refusal) → Unshaped f.periods (length f.nodes) (length f.outputs) e → Refused f e
-  row_output : ShapeFits f → (r t : ℕ) → t < f.periods → FirstOut (neg_ℤ (pos 20000)) (pos 20000) f.outputs (r * f.periods + t) → Refused f (refusal 5 r (t + 1))
+-- the first no, where the numbers are not those of a table
+pub data Refused (f : Table) : TableFault → Type 0 where
+  shape : (e : TableFault) → Unshaped f.periods (length f.nodes) (length f.outputs) e → Refused f e
+  row_output : ShapeFits f → (r t : ℕ) → t < f.periods → FirstOut (neg_ℤ (pos 20000)) (pos 20000) f.outputs (r * f.periods + t) → Refused f (Cell r (t + 1))
 
 -- the output that row r has in period t; periods count from 0 here
 abbrev pub fixed_at : Table → ℕ → ℕ → ℤ

@@ -1,9 +1,11 @@
 pub mod Verdicts
 pub mod Joined
-pub mod Tables
-pub mod Fixed
 pub mod Leasts
 pub mod Curves
+pub mod Faults
+pub mod Rules
+pub mod Tables
+pub mod Fixed
 pub mod Renewables
 pub mod Thermal
 pub mod Walks

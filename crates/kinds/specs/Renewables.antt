@@ -3,17 +3,17 @@ use Rattle.std.specs.Prelude.{◌≡◌, ℕ, ◌+◌, ◌<◌, Bool, true, cond
 use Rattle.std.specs.Int.{int_min}
 use Rattle.measures.specs.Amounts.{grains}
 use Rattle.market.specs.Clearing.{part}
-use Rattle.market.specs.Days.{refusal}
 use Rattle.market.specs.Fleet.{Meaning, Schedule}
 use Rattle.market.specs.Scans.{at, in_test, InBefore, FirstOut, in_all, all_below}
 use Rattle.market.specs.Totals.{total}
-use Rattle.market.specs.declared.refusal.Refusal.{Refusal}
 use Rattle.kinds.specs.declared.curve_numbers.CurveNumbers.{CurveNumbers}
 use Rattle.kinds.specs.declared.station.Station.{Station}
+use Rattle.kinds.specs.declared.table_fault.TableFault.{TableFault}
+use Rattle.kinds.specs.declared.table_fault.TableFault.TheVariants.{Row, Cell}
 use Rattle.kinds.specs.Curves as Curves
 use Rattle.kinds.specs.Curves.{lowest, highest, running_cost, net_cost}
 use Rattle.kinds.specs.Leasts.{least_over}
-use Rattle.kinds.specs.Tables.{Shaped, Unshaped, shape_test}
+use Rattle.kinds.specs.Tables.{Shaped, Unshaped, shape_test, CurvesFit, NoCurve}
 use Rattle.kinds.specs.Verdicts.{verdict_over}
 
 -- a station for each row, and available power for each row and period, row by row
@@ -30,9 +30,13 @@ table periods stations available = record { periods = periods; stations = statio
 abbrev pub no_rows : Table
 no_rows = table 1 [] []
 
--- the station of row r; past the last row, one that stands nowhere
+-- what stands past a table's end
+abbrev pub no_station : Station
+no_station = record { node = 0; curve = record { segments = 0; ends = []; prices = [] } }
+
+-- the station of row r
 abbrev pub station : List Station → ℕ → Station
-station rows r = slice_index_or rows r (record { node = 0; curve = record { segments = 0; ends = []; prices = [] } })
+station rows r = slice_index_or rows r no_station
 
 -- its curve
 abbrev pub curve : Table → ℕ → CurveNumbers
@@ -46,36 +50,28 @@ power f r = part f.periods r f.available
 abbrev pub ShapeFits : Table → Type 0
 ShapeFits f = Shaped f.periods (length f.stations) (length f.available)
 
--- every row before r has a curve
-abbrev pub CurvesFit : List Station → ℕ → Type 0
-CurvesFit rows r = (k : ℕ) → k < r → Curves.Made (station rows k).curve
-
--- e tells the first row whose curve is not one
-pub data NoCurve (rows : List Station) : Refusal → Type 0 where
-  no_curve : (r : ℕ) (e : Refusal) → r < length rows → CurvesFit rows r → Curves.Refused (station rows r).curve r e → NoCurve rows e
-
 -- a row's other numbers: its curve begins at 0, and its available power is 0 to 20,000
 pub record RowFits (c : CurveNumbers) (power : List ℤ) : Type 0 where
   pub begins : lowest c ≡ pos 0
   pub available : InBefore (pos 0) (pos 20000) power (length power)
 
 -- the first of them that is not so, in row r
-pub data RowRefused (c : CurveNumbers) (power : List ℤ) (r : ℕ) : Refusal → Type 0 where
-  begins : (lowest c ≢ pos 0) → RowRefused c power r (refusal 5 r 0)
-  available : lowest c ≡ pos 0 → (t : ℕ) → FirstOut (pos 0) (pos 20000) power t → RowRefused c power r (refusal 5 r (t + 1))
+pub data RowRefused (c : CurveNumbers) (power : List ℤ) (r : ℕ) : TableFault → Type 0 where
+  begins : (lowest c ≢ pos 0) → RowRefused c power r (Row r)
+  available : lowest c ≡ pos 0 → (t : ℕ) → FirstOut (pos 0) (pos 20000) power t → RowRefused c power r (Cell r (t + 1))
 
 -- every row before r is so
 abbrev pub RowsFit : Table → ℕ → Type 0
 RowsFit f r = (k : ℕ) → k < r → RowFits (curve f k) (power f k)
 
 -- e tells the first row that is not so
-pub data NoRow (f : Table) : Refusal → Type 0 where
-  no_row : (r : ℕ) (e : Refusal) → r < length f.stations → RowsFit f r → RowRefused (curve f r) (power f r) r e → NoRow f e
+pub data NoRow (f : Table) : TableFault → Type 0 where
+  no_row : (r : ℕ) (e : TableFault) → r < length f.stations → RowsFit f r → RowRefused (curve f r) (power f r) r e → NoRow f e
 
 -- the numbers are those of a table
 pub record Made (f : Table) : Type 0 where
   pub shape : ShapeFits f
-  pub curves : CurvesFit f.stations (length f.stations)
+  pub curves : CurvesFit (curve f) (length f.stations)
   pub rows : RowsFit f (length f.stations)
 
 -- the same as tests
@@ -92,11 +88,11 @@ pub record Fits (f : Table) : Type 0 where
   pub test : made_test f ≡ true
   pub made : Made f
 
--- the first no, where the numbers are not those of a table: its number, its row and its period
-pub data Refused (f : Table) : Refusal → Type 0 where
-  shape : (e : Refusal) → Unshaped f.periods (length f.stations) (length f.available) e → Refused f e
-  curves : (e : Refusal) → ShapeFits f → NoCurve f.stations e → Refused f e
-  rows : (e : Refusal) → ShapeFits f → CurvesFit f.stations (length f.stations) → NoRow f e → Refused f e
+-- the first no, where the numbers are not those of a table
+pub data Refused (f : Table) : TableFault → Type 0 where
+  shape : (e : TableFault) → Unshaped f.periods (length f.stations) (length f.available) e → Refused f e
+  curves : (e : TableFault) → ShapeFits f → NoCurve (curve f) (length f.stations) e → Refused f e
+  rows : (e : TableFault) → ShapeFits f → CurvesFit (curve f) (length f.stations) → NoRow f e → Refused f e
 
 -- the power available to row r in period t; periods count from 0 here
 abbrev pub available_at : Table → ℕ → ℕ → ℤ

@@ -1,12 +1,13 @@
 -- A table of thermal units: when its numbers are those of one, and the first no where they are not. Assumes nothing.
 use Rattle.std.specs.Prelude.{◌≡◌, ℕ, ◌<◌, ◌≤◌, Bool, true, ◌&&◌, List, [], length, pos, nat_le}
-use Rattle.market.specs.Days.{refusal}
 use Rattle.market.specs.Scans.{in_test, all_below}
-use Rattle.market.specs.declared.refusal.Refusal.{Refusal}
+use Rattle.kinds.specs.declared.curve_numbers.CurveNumbers.{CurveNumbers}
+use Rattle.kinds.specs.declared.table_fault.TableFault.{TableFault}
+use Rattle.kinds.specs.declared.table_fault.TableFault.TheVariants.{Periods, Sizes, Row}
 use Rattle.kinds.specs.declared.thermal_unit.ThermalUnit.{ThermalUnit}
 use Rattle.kinds.specs.Curves as Curves
 use Rattle.kinds.specs.Curves.{lowest, highest}
-use Rattle.kinds.specs.Tables.{PeriodsFit}
+use Rattle.kinds.specs.Tables.{PeriodsFit, CurvesFit, NoCurve}
 use Rattle.kinds.specs.Thermal.{NumbersFit, TableMade, rule_11, unit}
 use Rattle.kinds.specs.ThermalLaws.{Laws}
 
@@ -27,17 +28,13 @@ no_rows = table 1 []
 abbrev pub Made : Table → Type 0
 Made f = TableMade f.periods f.units
 
--- every row before r has a curve
-abbrev pub CurvesFit : List ThermalUnit → ℕ → Type 0
-CurvesFit us r = (k : ℕ) → k < r → Curves.Made (unit us k).curve
+-- the curve of row r
+abbrev pub curve : List ThermalUnit → ℕ → CurveNumbers
+curve us r = (unit us r).curve
 
 -- the other numbers of every row before r are in range
 abbrev pub RowsFit : List ThermalUnit → ℕ → Type 0
 RowsFit us r = (k : ℕ) → k < r → NumbersFit (unit us k)
-
--- e tells the first row whose curve is not one, by the curve's own questions
-pub data NoCurve (us : List ThermalUnit) : Refusal → Type 0 where
-  no_curve : (r : ℕ) (e : Refusal) → r < length us → CurvesFit us r → Curves.Refused (unit us r).curve r e → NoCurve us e
 
 -- r is the first row that has a number out of its range
 pub record NoRow (us : List ThermalUnit) (r : ℕ) : Type 0 where
@@ -45,12 +42,12 @@ pub record NoRow (us : List ThermalUnit) (r : ℕ) : Type 0 where
   pub before : RowsFit us r
   pub out : NumbersFit (unit us r) → ⊥
 
--- the first no, where the numbers are not those of a table: its number and its row
-pub data Refused (f : Table) : Refusal → Type 0 where
-  day : (PeriodsFit f.periods → ⊥) → Refused f (refusal 1 0 0)
-  count : PeriodsFit f.periods → (length f.units ≤ 32 → ⊥) → Refused f (refusal 2 0 0)
-  curves : PeriodsFit f.periods → length f.units ≤ 32 → (e : Refusal) → NoCurve f.units e → Refused f e
-  numbers : PeriodsFit f.periods → length f.units ≤ 32 → CurvesFit f.units (length f.units) → (r : ℕ) → NoRow f.units r → Refused f (refusal 5 r 0)
+-- the first no, where the numbers are not those of a table
+pub data Refused (f : Table) : TableFault → Type 0 where
+  day : (PeriodsFit f.periods → ⊥) → Refused f Periods
+  count : PeriodsFit f.periods → (length f.units ≤ 32 → ⊥) → Refused f Sizes
+  curves : PeriodsFit f.periods → length f.units ≤ 32 → (e : TableFault) → NoCurve (curve f.units) (length f.units) e → Refused f e
+  numbers : PeriodsFit f.periods → length f.units ≤ 32 → CurvesFit (curve f.units) (length f.units) → (r : ℕ) → NoRow f.units r → Refused f (Row r)
 
 -- ---- the same as tests
 -- the no_load cost and the start cost
@@ -82,7 +79,7 @@ abbrev pub made_test : Table → Bool
 made_test f =
     (nat_le 1 f.periods && nat_le f.periods 96)
     && (nat_le (length f.units) 32
-    && (all_below (λ r. Curves.made_test (unit f.units r).curve) (length f.units) && all_below (λ r. numbers_test (unit f.units r)) (length f.units)))
+    && (all_below (λ r. Curves.made_test (curve f.units r)) (length f.units) && all_below (λ r. numbers_test (unit f.units r)) (length f.units)))
 
 -- both, for the struct that holds the table, and the laws that its rows are then judged and bounded by
 pub record Fits (f : Table) : Type 0 where

@@ -6,7 +6,6 @@ ghost use Rattle.std.specs.Prelude.{◌≡◌, true};
 ghost use Rattle.kinds.specs.Curves.{made_test};
 
 use crate::CurveNumbers;
-pub use making::curve_fault;
 
 #[derive(Clone, Copy)]
 pub struct Curve {

@@ -3,12 +3,21 @@
 #![tactic(auto)]
 
 mod curve;
+mod curve_fault;
 mod curve_numbers;
-mod rules;
+mod curved;
+mod rule;
 mod station;
+mod table_fault;
+mod tables;
 mod thermal_unit;
 
-pub use curve::{Curve, curve_fault};
+pub use curve::Curve;
+pub use curve_fault::CurveFault;
 pub use curve_numbers::CurveNumbers;
+pub use curved::{Curved, curves_fit};
+pub use rule::{RUNNING, Rule};
 pub use station::Station;
+pub use table_fault::TableFault;
+pub use tables::{MOST_PERIODS, MOST_ROWS, rows_fit};
 pub use thermal_unit::ThermalUnit;

@@ -1,5 +1,6 @@
 // A thermal unit's record as it is handed in.
 use crate::curve_numbers::CurveNumbers;
+use crate::curved::Curved;
 
 #[derive(Clone, Copy)]
 pub struct ThermalUnit {
@@ -20,4 +21,12 @@ pub struct ThermalUnit {
     pub mark: u8,
     pub lasted: usize,
     pub output: i32,
+}
+
+impl Curved for ThermalUnit {
+    ghost curve = { λ unit. unit.curve };
+
+    fn curve(&self) -> &CurveNumbers {
+        &self.curve
+    }
 }

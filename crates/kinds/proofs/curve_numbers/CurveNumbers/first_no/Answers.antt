@@ -1,6 +1,6 @@
 use Rattle.kinds.specs.Curves.{count, ranges, order}
 use Rattle.kinds.proofs.CurveTests.{fits}
-use Rattle.kinds.proofs.curve.making.first_no.Goals as goal
+use Rattle.kinds.proofs.curve_numbers.CurveNumbers.first_no.Goals as goal
 
 pub returns-then-not-count_fits : goal.returns-then-not-count_fits
 returns-then-not-count_fits c = count c.if-not-count_fits.ensures
