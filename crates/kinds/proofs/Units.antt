@@ -103,6 +103,10 @@ module _ (u : ThermalUnit) (made : UnitMade u) where
       let r = (least_over_least (lowest u.curve) (highest u.curve) (net_cost u.curve v) low_high).reached in
       subst (λ z. Within 404000000000000 z) (sym r.3) (net_cost_within u.curve made.curve v h r.0 r.1 r.2)
 
+  -- what a period weighs before its allowances, where a running one weighs w before its start
+  pub before_allowances : (b m : ℕ) (w : ℤ) → Within 404400000000000 w → Within 412400000000000 (cond (running m) w (pos 0) +ℤ cond (starts b m) (yuan u.start_cost) (pos 0))
+  before_allowances b m w h = within_add 404400000000000 8000000000000 _ _ (within_cond 404400000000000 (running m) _ _ h (within_zero 404400000000000)) (within_cond 8000000000000 (starts b m) _ _ start_cost_within (within_zero 8000000000000))
+
   -- ---- what a period costs
   pub period_cost_within : (b m : ℕ) (p : ℤ) → Within 12400000000000 (period_cost u b m p)
   unfolding period_cost
@@ -134,7 +138,7 @@ module _ (u : ThermalUnit) (made : UnitMade u) where
     unfolding weight_in
     weight_in_within t b m =
         within_sub 412400000000000 40000000000000 _ _
-        (within_add 404400000000000 8000000000000 _ _ (within_cond 404400000000000 (running m) _ _ (running_weight_within t) (within_zero 404400000000000)) (within_cond 8000000000000 (starts b m) _ _ start_cost_within (within_zero 8000000000000)))
+        (before_allowances b m _ (running_weight_within t))
         (thousand 40000000000 _ (within_add 20000000000 20000000000 _ _ (rise_price_within t b m) (fall_price_within t b m)))
 
     -- ---- what the walk back holds
