@@ -12,7 +12,7 @@ use Rattle.kinds.specs.declared.thermal_unit.ThermalUnit.{ThermalUnit}
 use Rattle.kinds.specs.Curves.{lowest, highest, net_cost}
 use Rattle.kinds.specs.Leasts.{least_over}
 use Rattle.kinds.specs.Thermal.{UnitMade, yuan, running, starts, rise_allowance, fall_allowance, before, mark_in, period_cost, cost_in, value, running_weight, weight_in, lightest, floor, unit, TableMade, units}
-use Rattle.kinds.specs.Walks.{best, on_from, off_from, run_from, PricesFit, Walked}
+use Rattle.kinds.specs.Walks.{best, on_from, off_from, run_from, PricesFit, Ahead, Walked, AheadWithin}
 use Rattle.kinds.proofs.Leasts.{least_over_least}
 use Rattle.kinds.proofs.Segments.{ends_up, running_cost_within}
 use Rattle.kinds.proofs.Falls.{net_cost_within}
@@ -103,6 +103,10 @@ module _ (u : ThermalUnit) (made : UnitMade u) where
       let r = (least_over_least (lowest u.curve) (highest u.curve) (net_cost u.curve v) low_high).reached in
       subst (λ z. Within 404000000000000 z) (sym r.3) (net_cost_within u.curve made.curve v h r.0 r.1 r.2)
 
+  -- what a period weighs before its allowances, where a running one weighs w before its start
+  pub before_allowances : (b m : ℕ) (w : ℤ) → Within 404400000000000 w → Within 412400000000000 (cond (running m) w (pos 0) +ℤ cond (starts b m) (yuan u.start_cost) (pos 0))
+  before_allowances b m w h = within_add 404400000000000 8000000000000 _ _ (within_cond 404400000000000 (running m) _ _ h (within_zero 404400000000000)) (within_cond 8000000000000 (starts b m) _ _ start_cost_within (within_zero 8000000000000))
+
   -- ---- what a period costs
   pub period_cost_within : (b m : ℕ) (p : ℤ) → Within 12400000000000 (period_cost u b m p)
   unfolding period_cost
@@ -120,7 +124,7 @@ module _ (u : ThermalUnit) (made : UnitMade u) where
     least_within : (t : ℕ) → Within 404000000000000 (least_over (lowest u.curve) (highest u.curve) (net_cost u.curve (value q t)))
     least_within t = least_small (value q t) (value_within t)
 
-    running_weight_within : (t : ℕ) → Within 404400000000000 (running_weight u q t)
+    pub running_weight_within : (t : ℕ) → Within 404400000000000 (running_weight u q t)
     unfolding running_weight
     running_weight_within t = within_add 404000000000000 400000000000 _ _ (least_within t) no_load_within
 
@@ -130,11 +134,11 @@ module _ (u : ThermalUnit) (made : UnitMade u) where
     fall_price_within : (t b m : ℕ) → Within 20000000000 (at q.fall t *ℤ fall_allowance u b m)
     fall_price_within t b m = price_small (at q.fall t) (fall_allowance u b m) (fit.fall t) (fall_allowance_within b m)
 
-    weight_in_within : (t b m : ℕ) → Within 452400000000000 (weight_in u q t b m)
+    pub weight_in_within : (t b m : ℕ) → Within 452400000000000 (weight_in u q t b m)
     unfolding weight_in
     weight_in_within t b m =
         within_sub 412400000000000 40000000000000 _ _
-        (within_add 404400000000000 8000000000000 _ _ (within_cond 404400000000000 (running m) _ _ (running_weight_within t) (within_zero 404400000000000)) (within_cond 8000000000000 (starts b m) _ _ start_cost_within (within_zero 8000000000000)))
+        (before_allowances b m _ (running_weight_within t))
         (thousand 40000000000 _ (within_add 20000000000 20000000000 _ _ (rise_price_within t b m) (fall_price_within t b m)))
 
     -- ---- what the walk back holds
@@ -159,14 +163,14 @@ module _ (u : ThermalUnit) (made : UnitMade u) where
       unfolding run_from
       run_within t = many (n - t) _ (omega arith) (total_within (n - t) 452400000000000 _ (λ j l. weight_in_within (t + j) 1 1))
 
-      -- and so what its lists hold
-      pub cells_within : (t : ℕ) (runs ons offs : List ℤ) → Walked u q n t runs ons offs → (k : ℕ) → t ≤ k → k ≤ n → Within 43430400000000000 (at runs k) × Within 43430400000000000 (at ons k) × Within 43430400000000000 (at offs k)
-      cells_within t runs ons offs w k h l =
+      -- and so what is told of it
+      pub cells_within : (t : ℕ) (ahead : ℕ → Ahead) → Walked u q n t ahead → (k : ℕ) → t ≤ k → k ≤ n → AheadWithin (ahead k)
+      cells_within t ahead w k h l =
           let W : ℤ → Type 0 = λ z. Within 43430400000000000 z in
-          (subst W (sym (w.runs k h l)) (run_within k), subst W (sym (w.ons k h l)) (on_within k), subst W (sym (w.offs k h l)) (off_within k))
+          record { run = subst W (sym (w.runs k h l)) (run_within k); on = subst W (sym (w.ons k h l)) (on_within k); off = subst W (sym (w.offs k h l)) (off_within k) }
 
       -- what the output before the day passes on
-      carried_within : Within 20000000000000 (pos 1000 *ℤ (at q.fall 0 -ℤ at q.rise 0) *ℤ u.output)
+      pub carried_within : Within 20000000000000 (pos 1000 *ℤ (at q.fall 0 -ℤ at q.rise 0) *ℤ u.output)
       carried_within = carried_small (at q.fall 0) (at q.rise 0) u.output (fit.fall 0) (fit.rise 0) output_within
 
       lightest_within : Within 43430400000000000 (lightest u q n)

@@ -1,7 +1,6 @@
--- Loops over a thermal unit's periods: forward with the state before each, and back with the lists of the walk. Assumes nothing.
-use Rattle.std.proofs.Common.{◌≡◌, ℕ, zero, suc, ◌+◌, ◌-◌, ◌<◌, ◌≤◌, min, Bool, true, false, cond, eqb, List, length, get_or, set, ℤ, pos, ◌+ℤ◌, ◌-ℤ◌, ◌*ℤ◌, sym, refl, ap, ◌∙◌, subst, inl, inr, add-one, arith}
+-- Loops over a thermal unit's periods: forward with the state before each, and back with what the walk tells. Assumes nothing.
+use Rattle.std.proofs.Common.{◌≡◌, ℕ, zero, suc, ◌+◌, ◌-◌, ◌<◌, ◌≤◌, min, Bool, true, false, cond, eqb, List, get_or, ℤ, pos, ◌+ℤ◌, ◌-ℤ◌, ◌*ℤ◌, sym, refl, ap, ◌∙◌, subst, inl, inr, add-one, arith}
 use Rattle.std.specs.Int.{int_min}
-use Rattle.std.proofs.lemmas.List.{get_or-set_same, get_or-set_other}
 use Rattle.std.proofs.lemmas.Bool.{cases_eq, eq-eqb, ne_eqb, cond-true, cond-false}
 use Rattle.market.specs.Fleet.{RowPrices}
 use Rattle.market.specs.Scans.{at}
@@ -9,7 +8,7 @@ use Rattle.kinds.specs.declared.thermal_unit.ThermalUnit.{ThermalUnit}
 use Rattle.kinds.specs.Curves.{lowest, highest, net_cost}
 use Rattle.kinds.specs.Leasts.{least_over}
 use Rattle.kinds.specs.Thermal.{yuan, before, lasting, output_before, value, running_weight, weight_in, floor}
-use Rattle.kinds.specs.Walks.{run_from, on_from, off_from, Walked, from_before}
+use Rattle.kinds.specs.Walks.{run_from, on_from, off_from, Ahead, Walked, running_to, from_before}
 use Rattle.kinds.proofs.Walks.{run_end, on_end, off_end, run_step, on_step, off_step, floor_on, floor_off}
 
 -- ---- the state before the next period
@@ -40,39 +39,31 @@ pub running_weight_is : (u : ThermalUnit) (q : RowPrices) (t : ℕ) → running_
 unfolding running_weight
 running_weight_is u q t = refl
 
--- ---- the lists of the walk back
--- what holds of each number after index t up to n, and of the one that is written at t
-set_down : (P : ℕ → ℤ → Type 0) (xs : List ℤ) (t n : ℕ) (v : ℤ) → t < length xs → ((k : ℕ) → t + 1 ≤ k → k ≤ n → P k (at xs k)) → P t v → (k : ℕ) → t ≤ k → k ≤ n → P k (at (set xs t v) k)
-set_down P xs t n v within after here k h l =
-    elim (cases_eq k t) [
-      | inl e ↦ subst (λ j. P j (at (set xs t v) j)) (sym e) (subst (P t) (sym (get_or-set_same xs t v (pos 0) within)) here)
-      | inr ne ↦ subst (P k) (sym (get_or-set_other xs t k v (pos 0) (λ e. omega arith))) (after k (omega arith) l)
-    ]
-
+-- ---- the walk back
 module _ (u : ThermalUnit) (q : RowPrices) (n : ℕ) where
   -- after the last period all three are 0
-  pub walked_end : (run on off : List ℤ) → at run n ≡ pos 0 → at on n ≡ pos 0 → at off n ≡ pos 0 → Walked u q n n run on off
-  walked_end run on off r o f = record {
-    runs = λ k h l. last (λ j. at run j ≡ run_from u q n j) k h l (r ∙ sym (run_end u q n));
-    ons = λ k h l. last (λ j. at on j ≡ on_from u q n j) k h l (o ∙ sym (on_end u q n));
-    offs = λ k h l. last (λ j. at off j ≡ off_from u q n j) k h l (f ∙ sym (off_end u q n));
+  pub walked_end : (ahead : ℕ → Ahead) → (ahead n).run ≡ pos 0 → (ahead n).on ≡ pos 0 → (ahead n).off ≡ pos 0 → Walked u q n n ahead
+  walked_end ahead r o f = record {
+    runs = λ k h l. last (λ j. (ahead j).run ≡ run_from u q n j) k h l (r ∙ sym (run_end u q n));
+    ons = λ k h l. last (λ j. (ahead j).on ≡ on_from u q n j) k h l (o ∙ sym (on_end u q n));
+    offs = λ k h l. last (λ j. (ahead j).off ≡ off_from u q n j) k h l (f ∙ sym (off_end u q n));
   }
     where
       last : (P : ℕ → Type 0) (k : ℕ) → n ≤ k → k ≤ n → P n → P k
       last P k h l p = let e : n ≡ k = omega arith in subst P e p
 
-  module _ (run on off : List ℤ) where
-    -- what is written at t, from the numbers after it
+  module _ (ahead : ℕ → Ahead) where
+    -- what stands at t, from what stands after it
     abbrev pub run_at : ℕ → ℤ
-    run_at t = weight_in u q t 1 1 +ℤ at run (t + 1)
+    run_at t = weight_in u q t 1 1 +ℤ (ahead (t + 1)).run
 
     abbrev pub on_at : ℕ → ℤ
-    on_at t = int_min (weight_in u q t 1 1 +ℤ at on (t + 1)) (weight_in u q t 1 0 +ℤ at off (min (t + u.least_stopped) n))
+    on_at t = int_min (weight_in u q t 1 1 +ℤ (ahead (t + 1)).on) (weight_in u q t 1 0 +ℤ (ahead (min (t + u.least_stopped) n)).off)
 
     abbrev pub off_at : ℕ → ℤ
-    off_at t = int_min (at off (t + 1)) (weight_in u q t 0 1 +ℤ (at run (t + 1) -ℤ at run (min (t + u.least_running) n) +ℤ at on (min (t + u.least_running) n)))
+    off_at t = int_min (ahead (t + 1)).off (weight_in u q t 0 1 +ℤ running_to (ahead (t + 1)) (ahead (min (t + u.least_running) n)))
 
-    module _ (t : ℕ) (within : t < n) (walked : Walked u q n (t + 1) run on off) (least_running : 1 ≤ u.least_running) (least_stopped : 1 ≤ u.least_stopped) where
+    module _ (t : ℕ) (within : t < n) (walked : Walked u q n (t + 1) ahead) (least_running : 1 ≤ u.least_running) (least_stopped : 1 ≤ u.least_stopped) where
       run_so : run_at t ≡ run_from u q n t
       run_so = ap (λ z. weight_in u q t 1 1 +ℤ z) (walked.runs (t + 1) (omega arith) (omega arith)) ∙ sym (run_step u q n t within)
 
@@ -87,27 +78,34 @@ module _ (u : ThermalUnit) (q : RowPrices) (n : ℕ) where
           (weight_in u q t 0 1 +ℤ (walked.runs (t + 1) (omega arith) (omega arith) i -ℤ walked.runs (min (t + u.least_running) n) (omega arith) (omega arith) i +ℤ walked.ons (min (t + u.least_running) n) (omega arith) (omega arith) i)))
           ∙ sym (off_step u q n t within least_running)
 
-      -- a period earlier
-      pub walked_step : (r o f : ℤ) → n < length run → n < length on → n < length off → r ≡ run_at t → o ≡ on_at t → f ≡ off_at t → Walked u q n t (set run t r) (set on t o) (set off t f)
-      walked_step r o f a b c d e g = record {
-        runs = set_down (λ k z. z ≡ run_from u q n k) run t n r (omega arith) walked.runs (d ∙ run_so);
-        ons = set_down (λ k z. z ≡ on_from u q n k) on t n o (omega arith) walked.ons (e ∙ on_so);
-        offs = set_down (λ k z. z ≡ off_from u q n k) off t n f (omega arith) walked.offs (g ∙ off_so);
+      -- a period earlier: what stands after t stays
+      pub walked_step : (earlier : ℕ → Ahead) → ((k : ℕ) → t < k → k ≤ n → earlier k ≡ ahead k) → (earlier t).run ≡ run_at t → (earlier t).on ≡ on_at t → (earlier t).off ≡ off_at t → Walked u q n t earlier
+      walked_step earlier same d e g = record {
+        runs = set_down (λ k a. a.run ≡ run_from u q n k) walked.runs (d ∙ run_so);
+        ons = set_down (λ k a. a.on ≡ on_from u q n k) walked.ons (e ∙ on_so);
+        offs = set_down (λ k a. a.off ≡ off_from u q n k) walked.offs (g ∙ off_so);
       }
+        where
+          set_down : (P : ℕ → Ahead → Type 0) → ((k : ℕ) → t + 1 ≤ k → k ≤ n → P k (ahead k)) → P t (earlier t) → (k : ℕ) → t ≤ k → k ≤ n → P k (earlier k)
+          set_down P after here k h l =
+              elim (cases_eq k t) [
+                | inl e ↦ subst (λ j. P j (earlier j)) (sym e) here
+                | inr ne ↦ subst (P k) (sym (same k (omega arith) l)) (after k (omega arith) l)
+              ]
 
     -- the floor, once the walk has come to the first period
-    module _ (walked : Walked u q n 0 run on off) where
-      floor_running : u.mark ≡ 1 → (at run 0 -ℤ at run (min (u.least_running - u.lasted) n) +ℤ at on (min (u.least_running - u.lasted) n)) +ℤ pos 1000 *ℤ (at q.fall 0 -ℤ at q.rise 0) *ℤ u.output ≡ floor u q n
+    module _ (walked : Walked u q n 0 ahead) where
+      floor_running : u.mark ≡ 1 → running_to (ahead 0) (ahead (min (u.least_running - u.lasted) n)) +ℤ pos 1000 *ℤ (at q.fall 0 -ℤ at q.rise 0) *ℤ u.output ≡ floor u q n
       floor_running e =
           (λ i. (walked.runs 0 (omega arith) (omega arith) i -ℤ walked.runs (min (u.least_running - u.lasted) n) (omega arith) (omega arith) i +ℤ walked.ons (min (u.least_running - u.lasted) n) (omega arith) (omega arith) i) +ℤ pos 1000 *ℤ (at q.fall 0 -ℤ at q.rise 0) *ℤ u.output)
           ∙ sym (floor_on u q n e)
 
-      floor_stopped : u.mark ≡ 0 → at off (min (u.least_stopped - u.lasted) n) +ℤ pos 1000 *ℤ (at q.fall 0 -ℤ at q.rise 0) *ℤ u.output ≡ floor u q n
+      floor_stopped : u.mark ≡ 0 → (ahead (min (u.least_stopped - u.lasted) n)).off +ℤ pos 1000 *ℤ (at q.fall 0 -ℤ at q.rise 0) *ℤ u.output ≡ floor u q n
       floor_stopped e =
           ap (λ z. z +ℤ pos 1000 *ℤ (at q.fall 0 -ℤ at q.rise 0) *ℤ u.output) (walked.offs (min (u.least_stopped - u.lasted) n) (omega arith) (omega arith)) ∙ sym (floor_off u q n e)
 
       -- and from either mark before the day
-      pub floor_walked : u.mark ≤ 1 → from_before u n run on off +ℤ pos 1000 *ℤ (at q.fall 0 -ℤ at q.rise 0) *ℤ u.output ≡ floor u q n
+      pub floor_walked : u.mark ≤ 1 → from_before u n ahead +ℤ pos 1000 *ℤ (at q.fall 0 -ℤ at q.rise 0) *ℤ u.output ≡ floor u q n
       floor_walked few =
           elim (cases_eq u.mark 1) [
             | inl e ↦ ap (λ z. z +ℤ pos 1000 *ℤ (at q.fall 0 -ℤ at q.rise 0) *ℤ u.output) (cond-true (eqb u.mark 1) _ _ (eq-eqb u.mark 1 e)) ∙ floor_running e

@@ -1,5 +1,5 @@
 -- The least weight of the periods from one on, as a walk back over them gives it. Assumes nothing.
-use Rattle.std.specs.Prelude.{◌≡◌, ℕ, zero, suc, ◌+◌, ◌-◌, ◌≤◌, min, Bool, cond, List, ℤ, pos, ◌+ℤ◌, ◌-ℤ◌, nat_le}
+use Rattle.std.specs.Prelude.{◌≡◌, ℕ, zero, suc, ◌+◌, ◌-◌, ◌≤◌, min, Bool, cond, ℤ, pos, ◌+ℤ◌, ◌-ℤ◌, nat_le}
 use Rattle.std.specs.Int.{int_min}
 use Rattle.market.specs.Fleet.{RowPrices}
 use Rattle.market.specs.Scans.{at, Within, UpTo}
@@ -41,13 +41,30 @@ pub record PricesFit (q : RowPrices) : Type 0 where
   pub rise : (t : ℕ) → UpTo 1000000 (at q.rise t)
   pub fall : (t : ℕ) → UpTo 1000000 (at q.fall t)
 
--- the lists hold, from period t on, what the walk back gives
-pub record Walked (u : ThermalUnit) (q : RowPrices) (n t : ℕ) (run on off : List ℤ) : Type 0 where
-  pub runs : (k : ℕ) → t ≤ k → k ≤ n → at run k ≡ run_from u q n k
-  pub ons : (k : ℕ) → t ≤ k → k ≤ n → at on k ≡ on_from u q n k
-  pub offs : (k : ℕ) → t ≤ k → k ≤ n → at off k ≡ off_from u q n k
+-- what the periods from one on weigh: for a unit that runs in all of them and in the one before, the least for one that runs and may stop, and
+-- the least for one that is stopped and may start
+pub record Ahead : Type 0 where
+  pub run : ℤ
+  pub on : ℤ
+  pub off : ℤ
+
+-- from period t on, these are what the walk back gives
+pub record Walked (u : ThermalUnit) (q : RowPrices) (n t : ℕ) (ahead : ℕ → Ahead) : Type 0 where
+  pub runs : (k : ℕ) → t ≤ k → k ≤ n → (ahead k).run ≡ run_from u q n k
+  pub ons : (k : ℕ) → t ≤ k → k ≤ n → (ahead k).on ≡ on_from u q n k
+  pub offs : (k : ℕ) → t ≤ k → k ≤ n → (ahead k).off ≡ off_from u q n k
+
+-- no amount of a period is above 96 times what a period can weigh
+pub record AheadWithin (a : Ahead) : Type 0 where
+  pub run : Within 43430400000000000 a.run
+  pub on : Within 43430400000000000 a.on
+  pub off : Within 43430400000000000 a.off
+
+-- what it weighs to run from one period up to another, and to be free to stop from there
+abbrev pub running_to : Ahead → Ahead → ℤ
+running_to from to = from.run -ℤ to.run +ℤ to.on
 
 -- what the walk back says of the whole day: from the state before it, a mark goes on for what it still owes of its least time
-abbrev pub from_before : ThermalUnit → ℕ → List ℤ → List ℤ → List ℤ → ℤ
-from_before u n run on off =
-    cond (running u.mark) (at run 0 -ℤ at run (min (u.least_running - u.lasted) n) +ℤ at on (min (u.least_running - u.lasted) n)) (at off (min (u.least_stopped - u.lasted) n))
+abbrev pub from_before : ThermalUnit → ℕ → (ℕ → Ahead) → ℤ
+from_before u n ahead =
+    cond (running u.mark) (running_to (ahead 0) (ahead (min (u.least_running - u.lasted) n))) (ahead (min (u.least_stopped - u.lasted) n)).off

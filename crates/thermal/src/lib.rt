@@ -1,7 +1,7 @@
 // Thermal units: rows that start and stop, by rules on their times, their outputs and their ramps.
 #![tactic(auto)]
 
-mod rules;
+mod mark;
 mod ruling;
 mod table;
 

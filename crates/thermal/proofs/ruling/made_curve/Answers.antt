@@ -1,5 +1,0 @@
-use Rattle.kinds.proofs.CurveTests.{made_told}
-use Rattle.thermal.proofs.ruling.made_curve.Goals as goal
-
-pub invariant_of-result : goal.invariant_of-result
-invariant_of-result c = record { made = made_told _ c.requires }

@@ -1,0 +1,213 @@
+// A thermal unit's floor: the least weight of all mark sequences that keep the time rules, by a walk back over the periods.
+mod answering;
+
+ghost use Rattle.std.specs.Prelude.{◌≡◌, ℕ, ◌+◌, ◌^◌, ◌<◌, ◌≤◌, min, length, replicate, pos, ◌-ℤ◌, ◌+ℤ◌, ◌*ℤ◌};
+ghost use Rattle.market.specs.Fleet.{row_prices_of};
+ghost use Rattle.market.specs.Scans.{Within, UpTo, at};
+ghost use Rattle.kinds.specs.Curves.{lowest, highest, net_cost};
+ghost use Rattle.kinds.specs.Leasts.{least_over};
+ghost use Rattle.kinds.specs.Thermal.{UnitMade, rise_allowance, fall_allowance, value, running_weight, weight_in, floor};
+ghost use Rattle.kinds.specs.Walks.{PricesFit, Walked, AheadWithin, from_before};
+ghost use Rattle.thermal.specs.Marks.{code_of};
+ghost use Rattle.thermal.specs.Ahead.{nothing, ahead_of};
+
+use crate::mark::Mark;
+use crate::ruling::walking::{Ahead, PeriodWeights};
+use crate::ruling::{State, Unit};
+use market::RowPrices;
+use measures::{Fen, Grains, NetPrice, Yuan};
+
+// A cell for each period of the longest day, and one after the last.
+const CELLS: usize = 97;
+
+// Before the first step of the walk back.
+fn ended() -> [Ahead; CELLS]
+    ensures { result ≡ replicate 97 nothing }
+{
+    [Ahead::NOTHING; CELLS]
+}
+
+// The price in the period after, 0 after the last.
+fn next(prices: &[i32], period: usize) -> Fen
+    requires { period < length prices.now }
+    ensures { result.0 ≡ at prices.now (period + 1) }
+{
+    Fen(prices.get(period + 1).copied().unwrap_or(0))
+}
+
+// The price in a period less that in the period after.
+fn lead(prices: &[i32], period: usize) -> Fen
+    requires place { period < length prices.now }
+    requires prices { (UpTo 1000000 (at prices.now period)) × (UpTo 1000000 (at prices.now (period + 1))) }
+    ensures told { result.0 ≡ at prices.now period -ℤ at prices.now (period + 1) }
+    ensures small { Within 1000000 result.0 }
+{
+    Fen(prices[period]) - next(prices, period)
+}
+
+// The period from which a mark that begins in this one may change again, or the end of the day.
+fn free_from(period: usize, time: usize, periods: usize) -> usize
+    requires { period + time < 2 ^ 64 }
+    ensures { result ≡ min (period + time) periods }
+{
+    (period + time).min(periods)
+}
+
+// A unit at prices within their limits, in each period of a day.
+#[derive(Clone, Copy)]
+struct Priced<'a> {
+    pub unit: Unit<'a>,
+    pub prices: RowPrices<'a>,
+    ghost day: { (1 ≤ length prices.net.now) × (length prices.net.now ≤ 96) },
+    ghost rises: { length prices.rise.now ≡ length prices.net.now },
+    ghost falls: { length prices.fall.now ≡ length prices.net.now },
+    ghost fit: { PricesFit (row_prices_of prices) },
+}
+
+impl Priced<'_> {
+    fn periods(&self) -> usize
+        ensures { result ≡ length self.now.prices.net.now }
+    {
+        self.prices.net.len()
+    }
+
+    fn rise(&self, period: usize) -> Fen
+        requires { period < length self.now.prices.net.now }
+        ensures { result.0 ≡ at self.now.prices.rise.now period }
+    {
+        Fen(self.prices.rise[period])
+    }
+
+    fn fall(&self, period: usize) -> Fen
+        requires { period < length self.now.prices.net.now }
+        ensures { result.0 ≡ at self.now.prices.fall.now period }
+    {
+        Fen(self.prices.fall[period])
+    }
+
+    // What a tenth of a megawatt is worth in a period: its net price, with the prices of the rise and fall into the period and out of it.
+    fn value(&self, period: usize) -> NetPrice
+        requires { period < length self.now.prices.net.now }
+        ensures { result.0 ≡ value (row_prices_of self.now.prices) period }
+    {
+        let RowPrices { net, rise, fall } = self.prices;
+        NetPrice(net[period]) - (lead(rise, period) - lead(fall, period)).net()
+    }
+
+    // The least of running cost less worth over the whole curve.
+    fn least(&self, worth: NetPrice) -> Grains
+        requires { Within 20000000000 worth.0 }
+        ensures { result.0 ≡ least_over (lowest self.now.unit.record.now.curve) (highest self.now.unit.record.now.curve) (net_cost self.now.unit.record.now.curve worth.0) }
+    {
+        let curve = self.unit.curve();
+        match curve.least(worth, curve.lowest(), curve.highest()) {
+            Some(least) => least,
+            None => unreachable(),
+        }
+    }
+
+    // That least in a period, with the no_load cost.
+    fn running_weight(&self, period: usize) -> Grains
+        requires { period < length self.now.prices.net.now }
+        ensures { result.0 ≡ running_weight self.now.unit.record.now (row_prices_of self.now.prices) period }
+    {
+        self.least(self.value(period)) + Yuan(self.unit.record.no_load).grains()
+    }
+
+    // What the allowances take off at the prices of rises and falls.
+    fn allowed(&self, period: usize, before: Mark, mark: Mark) -> Grains
+        requires { period < length self.now.prices.net.now }
+        ensures told { result.0 ≡ pos 1000 *ℤ (at self.now.prices.rise.now period *ℤ rise_allowance self.now.unit.record.now (code_of before) (code_of mark) +ℤ at self.now.prices.fall.now period *ℤ fall_allowance self.now.unit.record.now (code_of before) (code_of mark)) }
+        ensures small { Within 40000000000000 result.0 }
+    {
+        self.rise(period).net() * self.unit.rise_allowance(before, mark)
+            + self.fall(period).net() * self.unit.fall_allowance(before, mark)
+    }
+
+    // What a period weighs, where a running one weighs so much before its start and its allowances.
+    fn weight(&self, runs: Grains, period: usize, before: Mark, mark: Mark) -> Grains
+        requires place { period < length self.now.prices.net.now }
+        requires runs { runs.0 ≡ running_weight self.now.unit.record.now (row_prices_of self.now.prices) period }
+        ensures { result.0 ≡ weight_in self.now.unit.record.now (row_prices_of self.now.prices) period (code_of before) (code_of mark) }
+    {
+        let running = match mark {
+            Mark::Running => runs,
+            Mark::Stopped => Grains(0),
+        };
+        running + self.unit.start_part(before, mark) - self.allowed(period, before, mark)
+    }
+
+    // What a period weighs.
+    fn weights(&self, period: usize) -> PeriodWeights
+        requires { period < length self.now.prices.net.now }
+        ensures run { result.run.0 ≡ weight_in self.now.unit.record.now (row_prices_of self.now.prices) period 1 1 }
+        ensures start { result.start.0 ≡ weight_in self.now.unit.record.now (row_prices_of self.now.prices) period 0 1 }
+        ensures stop { result.stop.0 ≡ weight_in self.now.unit.record.now (row_prices_of self.now.prices) period 1 0 }
+    {
+        let runs = self.running_weight(period);
+        PeriodWeights {
+            run: self.weight(runs, period, Mark::Running, Mark::Running),
+            start: self.weight(runs, period, Mark::Stopped, Mark::Running),
+            stop: self.weight(runs, period, Mark::Running, Mark::Stopped),
+        }
+    }
+
+    // The walk back, from after the last period to the first.
+    fn walk_back(&self) -> [Ahead; CELLS]
+        ensures { Walked self.now.unit.record.now (row_prices_of self.now.prices) (length self.now.prices.net.now) 0 (ahead_of result) }
+    {
+        let periods = self.periods();
+        let mut walk = ended();
+        for period in (0..periods).rev() {
+            let may_stop = free_from(period, self.unit.record.least_running, periods);
+            let may_start = free_from(period, self.unit.record.least_stopped, periods);
+            walk[period] = walk[period + 1].before(
+                self.weights(period),
+                walk[may_stop],
+                walk[may_start],
+            );
+        }
+        walk
+    }
+
+    // The least weight of the day, from the state before it: a mark goes on for what it still owes of its least time.
+    fn lightest(&self, walk: &[Ahead; CELLS]) -> Grains
+        requires { (k : ℕ) → k ≤ length self.now.prices.net.now → AheadWithin (ahead_of walk.now k) }
+        ensures told { result.0 ≡ from_before self.now.unit.record.now (length self.now.prices.net.now) (ahead_of walk.now) }
+        ensures small { Within 130291200000000000 result.0 }
+    {
+        let State { mark, lasted, .. } = State::from(&self.unit);
+        match mark {
+            Mark::Running => {
+                let owed = self.unit.record.least_running.saturating_sub(lasted);
+                walk[0].running_to(walk[owed.min(self.periods())])
+            }
+            Mark::Stopped => {
+                let owed = self.unit.record.least_stopped.saturating_sub(lasted);
+                walk[owed.min(self.periods())].off
+            }
+        }
+    }
+
+    // What the output before the day weighs at the first period's prices.
+    fn carried(&self) -> Grains
+        ensures told { result.0 ≡ pos 1000 *ℤ (at self.now.prices.fall.now 0 -ℤ at self.now.prices.rise.now 0) *ℤ self.now.unit.record.now.output }
+        ensures small { Within 20000000000000 result.0 }
+    {
+        (self.fall(0) - self.rise(0)).net() * State::from(&self.unit).output
+    }
+
+    // Both together.
+    fn weight_of_day(&self, walk: &[Ahead; CELLS]) -> Grains
+        requires { (k : ℕ) → k ≤ length self.now.prices.net.now → AheadWithin (ahead_of walk.now k) }
+        ensures { result.0 ≡ from_before self.now.unit.record.now (length self.now.prices.net.now) (ahead_of walk.now) +ℤ pos 1000 *ℤ (at self.now.prices.fall.now 0 -ℤ at self.now.prices.rise.now 0) *ℤ self.now.unit.record.now.output }
+    {
+        self.lightest(walk) + self.carried()
+    }
+
+    fn floor(&self) -> Grains
+        ensures { result.0 ≡ floor self.now.unit.record.now (row_prices_of self.now.prices) (length self.now.prices.net.now) }
+    {
+        self.weight_of_day(&self.walk_back())
+    }
+}
