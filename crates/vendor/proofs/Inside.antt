@@ -1,5 +1,5 @@
 -- A row without fault names cells that are there. Assumes nothing.
-use Rattle.std.proofs.Common.{◌≡◌, ℕ, suc, ◌+◌, ◌-◌, ◌*◌, ◌<◌, ◌≤◌, Bool, true, false, leb, List, [], ◌∷◌, ◌++◌, length, ℤ, pos, negsuc, Some, None, Option, sym, refl, ◌∙◌, arith}
+use Rattle.std.proofs.Common.{◌≡◌, ℕ, suc, ◌+◌, ◌-◌, ◌*◌, ◌<◌, ◌≤◌, Bool, true, false, leb, ltb, List, [], ◌∷◌, ◌++◌, length, ℤ, pos, negsuc, Some, None, Option, sym, refl, ◌∙◌, arith}
 use Rattle.std.specs.Option.{option_map}
 use Rattle.std.specs.List.{AllByRecursion}
 use Rattle.std.proofs.lemmas.Nat.{mul-add-lt}
@@ -13,7 +13,7 @@ use Rattle.vendor.specs.declared.rows.Group.{Group}
 use Rattle.vendor.specs.declared.rows.Group.TheVariants.{Nothing, Outputs, System, Lines, Ramps}
 use Rattle.vendor.specs.Files.{place}
 use Rattle.vendor.specs.Fills.{NamesACell}
-use Rattle.vendor.specs.Rows.{Line, fields, number_in, first_no, cut_questions, number_questions, field_questions, columns, group, known, width, natural, below, one_to, any, entry_for, entry_of, place_of, follows, row_fault}
+use Rattle.vendor.specs.Rows.{Line, fields, number_in, first_no, cut_questions, number_questions, field_questions, columns, group, known, width, natural, one_of, any, entry_for, entry_of, place_of, follows, row_fault}
 use Rattle.vendor.proofs.Questions.{order, numbers, in_fields}
 
 -- all of some questions have the answer yes
@@ -31,29 +31,28 @@ none_mapped : {F G : Type 0} (f : F → G) (o : Option F) → option_map f o ≡
 none_mapped f None e = refl
 none_mapped f (Some x) e = let z : ◌≡◌ {A = ℕ} 0 1 = cc in absurd (omega arith)
 
--- a field from 0 and below n, and one from 1 to n
-below_n : (n : ℕ) (z : ℤ) → below n z ≡ true → natural z < n
-below_n n (pos k) e = ltb-true k n e
-below_n n (negsuc k) e = let z : ◌≡◌ {A = ℕ} 0 1 = cc in absurd (omega arith)
-
-pub one_to_n : (n : ℕ) (z : ℤ) → one_to n z ≡ true → (1 ≤ natural z) × (natural z ≤ n)
-one_to_n n (pos k) e = let p = and_parts (leb 1 k) (leb k n) e in (leb-true 1 k p.0, leb-true k n p.1)
-one_to_n n (negsuc k) e = let z : ◌≡◌ {A = ℕ} 0 1 = cc in absurd (omega arith)
+-- a field that is one of n numbers from `from` on
+pub one_of_n : (from n : ℕ) (z : ℤ) → one_of from n z ≡ true → (from ≤ natural z) × (natural z < from + n)
+one_of_n from n (pos k) e = let p = and_parts (leb from k) (ltb k (from + n)) e in (leb-true from k p.0, ltb-true k (from + n) p.1)
+one_of_n from n (negsuc k) e = let z : ◌≡◌ {A = ℕ} 0 1 = cc in absurd (omega arith)
 
 cell_below : (items periods item period : ℕ) → item < items → 1 ≤ period → period ≤ periods → item * periods + (period - 1) < items * periods
 cell_below items periods item period a b c = omega (arith, mul-add-lt item periods (period - 1) items a (omega arith))
 
 -- the first two fields after the letter: an item, and a period
-pub item_period : (sh : Shape) (n items : ℕ) (oks : List (ℤ → Bool)) (f g : List ℕ) (fs : List (List ℕ)) → first_no (field_questions n (below items ∷ one_to sh.periods ∷ oks) (f ∷ g ∷ fs)) ≡ None
+pub item_period : (sh : Shape) (n items : ℕ) (oks : List (ℤ → Bool)) (f g : List ℕ) (fs : List (List ℕ)) → first_no (field_questions n (one_of 0 items ∷ one_of 1 sh.periods ∷ oks) (f ∷ g ∷ fs)) ≡ None
     → (natural (number_in f) < items) × (1 ≤ natural (number_in g)) × (natural (number_in g) ≤ sh.periods)
 item_period sh n items oks f g fs all =
-    let each = each_yes (field_questions n (below items ∷ one_to sh.periods ∷ oks) (f ∷ g ∷ fs)) all in
-    let t = one_to_n sh.periods (number_in g) each.1.1.1.0 in
-    (below_n items (number_in f) each.1.0, t.0, t.1)
+    let each = each_yes (field_questions n (one_of 0 items ∷ one_of 1 sh.periods ∷ oks) (f ∷ g ∷ fs)) all in
+    let i = one_of_n 0 items (number_in f) each.1.0 in
+    let t = one_of_n 1 sh.periods (number_in g) each.1.1.1.0 in
+    (omega arith, t.0, omega arith)
 
-period_only : (sh : Shape) (n : ℕ) (oks : List (ℤ → Bool)) (g : List ℕ) (fs : List (List ℕ)) → first_no (field_questions n (one_to sh.periods ∷ oks) (g ∷ fs)) ≡ None
+period_only : (sh : Shape) (n : ℕ) (oks : List (ℤ → Bool)) (g : List ℕ) (fs : List (List ℕ)) → first_no (field_questions n (one_of 1 sh.periods ∷ oks) (g ∷ fs)) ≡ None
     → (1 ≤ natural (number_in g)) × (natural (number_in g) ≤ sh.periods)
-period_only sh n oks g fs all = one_to_n sh.periods (number_in g) (each_yes (field_questions n (one_to sh.periods ∷ oks) (g ∷ fs)) all).1.0
+period_only sh n oks g fs all =
+    let t = one_of_n 1 sh.periods (number_in g) (each_yes (field_questions n (one_of 1 sh.periods ∷ oks) (g ∷ fs)) all).1.0 in
+    (t.0, omega arith)
 
 -- what a row tells lies in the shape
 abbrev pub LiesIn : Shape → Entry → Type 0
@@ -66,7 +65,7 @@ lies_for : (sh : Shape) (g : Group) (letter : List ℕ) (fs : List (List ℕ)) �
 lies_for sh Nothing letter fs k w all = let z : ◌≡◌ {A = ℕ} 0 1 = cc in absurd (omega arith)
 lies_for sh Outputs letter [] k w all = absurd (omega arith)
 lies_for sh Outputs letter (a ∷ []) k w all = absurd (omega arith)
-lies_for sh Outputs letter (a ∷ b ∷ fs) k w all = item_period sh 2 sh.size (below 256 ∷ any ∷ []) a b fs all
+lies_for sh Outputs letter (a ∷ b ∷ fs) k w all = item_period sh 2 sh.size (one_of 0 256 ∷ any ∷ []) a b fs all
 lies_for sh System letter [] k w all = absurd (omega arith)
 lies_for sh System letter (a ∷ fs) k w all = period_only sh 2 (any ∷ []) a fs all
 lies_for sh Lines letter [] k w all = absurd (omega arith)

@@ -68,15 +68,10 @@ is_number text = is_some (number text)
 abbrev pub number_in : List ℕ → ℤ
 number_in text = unwrap_or (number text) (pos 0)
 
--- from 0 and below n
-abbrev pub below : ℕ → ℤ → Bool
-below n (pos k) = nat_lt k n
-below n (negsuc k) = false
-
--- 1 to n
-abbrev pub one_to : ℕ → ℤ → Bool
-one_to n (pos k) = nat_le 1 k && nat_le k n
-one_to n (negsuc k) = false
+-- one of the n numbers from `from` on: 0 to n - 1, or 1 to n
+abbrev pub one_of : ℕ → ℕ → ℤ → Bool
+one_of from n (pos k) = nat_le from k && nat_lt k (from + n)
+one_of from n (negsuc k) = false
 
 abbrev pub any : ℤ → Bool
 any z = true
@@ -84,10 +79,10 @@ any z = true
 -- what each field after the letter may be
 abbrev pub columns : Shape → Group → List (ℤ → Bool)
 columns sh Nothing = []
-columns sh Outputs = below sh.size ∷ one_to sh.periods ∷ below 256 ∷ any ∷ []
-columns sh System = one_to sh.periods ∷ any ∷ []
-columns sh Lines = below sh.lines ∷ one_to sh.periods ∷ any ∷ any ∷ []
-columns sh Ramps = below sh.size ∷ one_to sh.periods ∷ any ∷ any ∷ []
+columns sh Outputs = one_of 0 sh.size ∷ one_of 1 sh.periods ∷ one_of 0 256 ∷ any ∷ []
+columns sh System = one_of 1 sh.periods ∷ any ∷ []
+columns sh Lines = one_of 0 sh.lines ∷ one_of 1 sh.periods ∷ any ∷ any ∷ []
+columns sh Ramps = one_of 0 sh.size ∷ one_of 1 sh.periods ∷ any ∷ any ∷ []
 
 -- field by field, from field n on: is it a number, and is that in range?
 abbrev pub field_questions : ℕ → List (ℤ → Bool) → List (List ℕ) → List (Bool × FieldFault)
@@ -133,10 +128,6 @@ entry_of fs = entry_for (group fs) fs
 -- the numbers of a row, else the fault of its first faulty field
 abbrev pub numbers_answer : Shape → List (List ℕ) → Result Entry FieldFault
 numbers_answer sh fs = unless_no (first_no (number_questions sh fs)) (entry_of fs)
-
--- the same, of a row of a known letter, from its fields after the letter
-abbrev pub fields_answer : Shape → Group → List (List ℕ) → Result Entry FieldFault
-fields_answer sh g fs = unless_no (first_no (field_questions 2 (columns sh g) fs)) (entry_for g ([] ∷ fs))
 
 -- where a row stands in the order: its letter, its first number and its period; an S row has no first number
 abbrev pub place_of : Entry → Last
