@@ -1,5 +1,5 @@
 -- A row without fault names cells that are there. Assumes nothing.
-use Rattle.std.proofs.Common.{◌≡◌, ℕ, suc, ◌+◌, ◌-◌, ◌*◌, ◌<◌, ◌≤◌, Bool, true, false, leb, ltb, List, [], ◌∷◌, ◌++◌, length, ℤ, pos, negsuc, Some, None, Option, sym, refl, ◌∙◌, arith}
+use Rattle.std.proofs.Common.{◌≡◌, ℕ, suc, ◌+◌, ◌-◌, ◌*◌, ◌<◌, ◌≤◌, Bool, true, false, leb, ltb, List, [], ◌∷◌, ◌++◌, length, ℤ, pos, negsuc, is_some, Some, None, Option, sym, refl, ◌∙◌, arith}
 use Rattle.std.specs.Option.{option_map}
 use Rattle.std.specs.List.{AllByRecursion}
 use Rattle.std.proofs.lemmas.Nat.{mul-add-lt}
@@ -10,10 +10,10 @@ use Rattle.vendor.specs.declared.rows.Entry.TheVariants as entry
 use Rattle.vendor.specs.declared.rows.Shape.{Shape}
 use Rattle.vendor.specs.declared.rows.Last.{Last}
 use Rattle.vendor.specs.declared.rows.Group.{Group}
-use Rattle.vendor.specs.declared.rows.Group.TheVariants.{Nothing, Outputs, System, Lines, Ramps}
+use Rattle.vendor.specs.declared.rows.Group.TheVariants.{Outputs, System, Lines, Ramps}
 use Rattle.vendor.specs.Files.{place}
 use Rattle.vendor.specs.Fills.{NamesACell}
-use Rattle.vendor.specs.Rows.{Line, fields, number_in, first_no, cut_questions, number_questions, field_questions, columns, group, known, width, natural, one_of, any, entry_for, entry_of, place_of, follows, row_fault}
+use Rattle.vendor.specs.Rows.{Line, fields, number_in, first_no, cut_questions, number_questions, field_questions, columns, group, width, natural, one_of, any, entry_for, entry_of, place_of, follows, row_fault}
 use Rattle.vendor.proofs.Questions.{order, numbers, in_fields}
 
 -- all of some questions have the answer yes
@@ -61,29 +61,29 @@ LiesIn sh (entry.System period price) = (1 ≤ period) × (period ≤ sh.periods
 LiesIn sh (entry.Line line period upper lower) = (line < sh.lines) × (1 ≤ period) × (period ≤ sh.periods)
 LiesIn sh (entry.Ramp row period rise fall) = (row < sh.size) × (1 ≤ period) × (period ≤ sh.periods)
 
-lies_for : (sh : Shape) (g : Group) (letter : List ℕ) (fs : List (List ℕ)) → known g ≡ true → suc (length fs) ≡ width g → first_no (field_questions 2 (columns sh g) fs) ≡ None → LiesIn sh (entry_for g (letter ∷ fs))
-lies_for sh Nothing letter fs k w all = let z : ◌≡◌ {A = ℕ} 0 1 = cc in absurd (omega arith)
-lies_for sh Outputs letter [] k w all = absurd (omega arith)
-lies_for sh Outputs letter (a ∷ []) k w all = absurd (omega arith)
-lies_for sh Outputs letter (a ∷ b ∷ fs) k w all = item_period sh 2 sh.size (one_of 0 256 ∷ any ∷ []) a b fs all
-lies_for sh System letter [] k w all = absurd (omega arith)
-lies_for sh System letter (a ∷ fs) k w all = period_only sh 2 (any ∷ []) a fs all
-lies_for sh Lines letter [] k w all = absurd (omega arith)
-lies_for sh Lines letter (a ∷ []) k w all = absurd (omega arith)
-lies_for sh Lines letter (a ∷ b ∷ fs) k w all = item_period sh 2 sh.lines (any ∷ any ∷ []) a b fs all
-lies_for sh Ramps letter [] k w all = absurd (omega arith)
-lies_for sh Ramps letter (a ∷ []) k w all = absurd (omega arith)
-lies_for sh Ramps letter (a ∷ b ∷ fs) k w all = item_period sh 2 sh.size (any ∷ any ∷ []) a b fs all
+lies_for : (sh : Shape) (g : Option Group) (letter : List ℕ) (fs : List (List ℕ)) → is_some g ≡ true → suc (length fs) ≡ width g → first_no (field_questions 2 (columns sh g) fs) ≡ None → LiesIn sh (entry_for g (letter ∷ fs))
+lies_for sh None letter fs k w all = let z : ◌≡◌ {A = ℕ} 0 1 = cc in absurd (omega arith)
+lies_for sh (Some Outputs) letter [] k w all = absurd (omega arith)
+lies_for sh (Some Outputs) letter (a ∷ []) k w all = absurd (omega arith)
+lies_for sh (Some Outputs) letter (a ∷ b ∷ fs) k w all = item_period sh 2 sh.size (one_of 0 256 ∷ any ∷ []) a b fs all
+lies_for sh (Some System) letter [] k w all = absurd (omega arith)
+lies_for sh (Some System) letter (a ∷ fs) k w all = period_only sh 2 (any ∷ []) a fs all
+lies_for sh (Some Lines) letter [] k w all = absurd (omega arith)
+lies_for sh (Some Lines) letter (a ∷ []) k w all = absurd (omega arith)
+lies_for sh (Some Lines) letter (a ∷ b ∷ fs) k w all = item_period sh 2 sh.lines (any ∷ any ∷ []) a b fs all
+lies_for sh (Some Ramps) letter [] k w all = absurd (omega arith)
+lies_for sh (Some Ramps) letter (a ∷ []) k w all = absurd (omega arith)
+lies_for sh (Some Ramps) letter (a ∷ b ∷ fs) k w all = item_period sh 2 sh.size (any ∷ any ∷ []) a b fs all
 
 -- a row without fault, by its parts
-pub record Sound (sh : Shape) (last : Last) (l : Line) : Type 0 where
+pub record Sound (sh : Shape) (last : Option Last) (l : Line) : Type 0 where
   pub ended : l.ended ≡ true
-  pub letter : known (group (fields l)) ≡ true
+  pub letter : is_some (group (fields l)) ≡ true
   pub count : length (fields l) ≡ width (group (fields l))
   pub numbers : first_no (number_questions sh (fields l)) ≡ None
   pub after : follows last (place_of (entry_of (fields l))) ≡ true
 
-pub sound : (sh : Shape) (last : Last) (l : Line) → row_fault sh last l ≡ None → Sound sh last l
+pub sound : (sh : Shape) (last : Option Last) (l : Line) → row_fault sh last l ≡ None → Sound sh last l
 unfolding row_fault
 sound sh last l none =
     let p = all_yes (cut_questions l) (numbers sh last l ++ order sh last l) none in
@@ -97,11 +97,11 @@ sound sh last l none =
       after = (each_yes (order sh last l) q.1).0;
     }
 
-lies_at : (sh : Shape) (fs : List (List ℕ)) → known (group fs) ≡ true → length fs ≡ width (group fs) → first_no (number_questions sh fs) ≡ None → LiesIn sh (entry_of fs)
+lies_at : (sh : Shape) (fs : List (List ℕ)) → is_some (group fs) ≡ true → length fs ≡ width (group fs) → first_no (number_questions sh fs) ≡ None → LiesIn sh (entry_of fs)
 lies_at sh [] k w all = let z : ◌≡◌ {A = ℕ} 0 1 = cc in absurd (omega arith)
 lies_at sh (letter ∷ fs) k w all = lies_for sh (group (letter ∷ fs)) letter fs k w all
 
-pub lies_in : (sh : Shape) (last : Last) (l : Line) → row_fault sh last l ≡ None → LiesIn sh (entry_of (fields l))
+pub lies_in : (sh : Shape) (last : Option Last) (l : Line) → row_fault sh last l ≡ None → LiesIn sh (entry_of (fields l))
 lies_in sh last l none = let s = sound sh last l none in lies_at sh (fields l) s.letter s.count s.numbers
 
 pub names_a_cell : (sh : Shape) (e : Entry) → LiesIn sh e → NamesACell sh e
@@ -111,6 +111,6 @@ names_a_cell sh (entry.Line line period upper lower) h = (h.1, cell_below sh.lin
 names_a_cell sh (entry.Ramp row period rise fall) h = (h.1, cell_below sh.size sh.periods row period h.0 h.1 h.2)
 
 -- no row has a fault beside the row before it
-abbrev pub Faultless : Shape → Last → List Line → Type 0
+abbrev pub Faultless : Shape → Option Last → List Line → Type 0
 Faultless sh last [] = Unit {0}
-Faultless sh last (l ∷ ls) = (row_fault sh last l ≡ None) × Faultless sh (place l) ls
+Faultless sh last (l ∷ ls) = (row_fault sh last l ≡ None) × Faultless sh (Some (place l)) ls

@@ -9,7 +9,6 @@ use Rattle.vendor.specs.Files.{lines, entries, counted, none_counted, answered, 
 use Rattle.vendor.specs.Fills.{Readable}
 use Rattle.vendor.specs.Format as Format
 use Rattle.vendor.specs.Format.{Answered, wrong_lengths, faulty, WordsMean}
-use Rattle.vendor.specs.Rows.{start}
 use Rattle.vendor.proofs.Filling.{faultless, sized_parts}
 use Rattle.vendor.proofs.Formats.{pieces_between, numbers_decimal, rows_ended}
 use Rattle.vendor.proofs.Judging.{first_faulty, all_sound, tables_hold}
@@ -52,7 +51,7 @@ module _ (sh : Shape) (file : List ℕ) (c : Contents) where
 
   means_taken : sized sh c ≡ true → fault_of sh file ≡ None → Answered sh file c (Ok (counts sh file c)) (filled sh (entries (lines file)))
   means_taken fit e =
-      let h = faultless sh 1 start (lines file) e in
+      let h = faultless sh 1 None (lines file) e in
       Format.taken (filled sh (entries (lines file))) (sized_parts sh c fit) (all_sound sh file h) (tables_hold sh file h)
 
   means_sized : (o : Option FileFault) → sized sh c ≡ true → fault_of sh file ≡ o → Answered sh file c (answered o (counts sh file c)) (unless o c (filled sh (entries (lines file))))

@@ -8,7 +8,7 @@ use Rattle.vendor.specs.declared.tables.Counts.{Counts}
 use Rattle.vendor.specs.Files as Files
 use Rattle.vendor.specs.Files.{lines, rows_answer, none_counted, lines_of, answered, rows_answer_from}
 use Rattle.vendor.specs.Pieces.{pieces, onto}
-use Rattle.vendor.specs.Rows.{Line, fields, entry_of, row_fault, start}
+use Rattle.vendor.specs.Rows.{Line, fields, entry_of, row_fault}
 use Rattle.vendor.specs.Walks.{entry_answer, none_or, tail}
 use Rattle.vendor.proofs.Walking.{pieces_some, lines_cons}
 
@@ -30,13 +30,13 @@ lines_short (b ∷ bs) =
     elim (eqb b 10) as (λ t. length (lines_of (cond t ([] ∷ pieces 10 bs) (onto b (pieces 10 bs)))) ≤ suc (length bs)) [ true ↦ cut | false ↦ on ]
 
 -- what an answer says of the rows ahead
-pub record ReadOn (sh : Shape) (last : Last) (ls : List Line) (e : Entry) : Type 0 where
+pub record ReadOn (sh : Shape) (last : Option Last) (ls : List Line) (e : Entry) : Type 0 where
   pub row : Line
   pub is : ls ≡ row ∷ tail ls
   pub sound : row_fault sh last row ≡ None
   pub told : e ≡ entry_of (fields row)
 
-module _ (sh : Shape) (last : Last) where
+module _ (sh : Shape) (last : Option Last) where
   read_row : (l : Line) (e : Entry) (o : Option RowFault) → Ok (Some e) ≡ none_or o (entry_of (fields l)) → (o ≡ None) × (e ≡ entry_of (fields l))
   read_row l e None told = (refl, cc)
   read_row l e (Some f) told = let z : ◌≡◌ {A = ℕ} 0 1 = cc in absurd (omega arith)
@@ -54,7 +54,7 @@ module _ (sh : Shape) (last : Last) where
       never (Some f) told = let z : ◌≡◌ {A = ℕ} 0 1 = cc in absurd (omega arith)
 
 -- the first pass, before the row n: what is answered so far and from here on is the file's answer
-pub record Checking (sh : Shape) (file : List ℕ) (n : ℕ) (last : Last) (c : Counts) (ahead : List Line) : Type 0 where
+pub record Checking (sh : Shape) (file : List ℕ) (n : ℕ) (last : Option Last) (c : Counts) (ahead : List Line) : Type 0 where
   pub answer : rows_answer_from sh n last c ahead ≡ rows_answer sh file
   pub rows : n + length ahead ≡ 1 + length (lines file)
   pub outputs : c.outputs < n
@@ -63,7 +63,7 @@ pub record Checking (sh : Shape) (file : List ℕ) (n : ℕ) (last : Last) (c : 
   pub ramps : c.ramps < n
 
 module _ (sh : Shape) (file : List ℕ) where
-  pub checking_none : (last : Last) (ahead : List Line) → last ≡ start → ahead ≡ Files.lines file → Checking sh file 1 last none_counted ahead
+  pub checking_none : (last : Option Last) (ahead : List Line) → last ≡ None → ahead ≡ Files.lines file → Checking sh file 1 last none_counted ahead
   checking_none last ahead first all = record {
     answer = λ j. rows_answer_from sh 1 (first j) none_counted (all j);
     rows = ap (λ ls. 1 + length ls) all;
@@ -77,5 +77,5 @@ module _ (sh : Shape) (file : List ℕ) where
   longer ls l rest is = ap length is ∙ omega arith
 
   -- a row that is ahead is one of no more rows than the file has bytes
-  pub row_small : (n : ℕ) (last : Last) (c : Counts) (ahead : List Line) (e : Entry) → Checking sh file n last c ahead → ReadOn sh last ahead e → n ≤ length file
+  pub row_small : (n : ℕ) (last : Option Last) (c : Counts) (ahead : List Line) (e : Entry) → Checking sh file n last c ahead → ReadOn sh last ahead e → n ≤ length file
   row_small n last c ahead e h r = omega (arith, longer ahead r.row (tail ahead) r.is, h.rows, lines_short file)

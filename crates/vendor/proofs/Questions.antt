@@ -36,7 +36,7 @@ module _ {A F : Type 0} where
   by_ok None x y told = (refl, cc)
   by_ok (Some f) x y told = let z : ◌≡◌ {A = ℕ} 0 1 = cc in absurd (omega arith)
 
-module _ (sh : Shape) (last : Last) (l : Line) where
+module _ (sh : Shape) (last : Option Last) (l : Line) where
   abbrev pub order : List (Bool × RowFault)
   order = (follows last (place_of (entry_of (fields l))), OutOfOrder) ∷ []
 
@@ -57,17 +57,17 @@ module _ (sh : Shape) (last : Last) (l : Line) where
   order_asked cut all =
       asked_on (cut_questions l) (numbers ++ order) cut ∙ asked_on numbers order (in_fields (number_questions sh (fields l)) ∙ ap (option_map Field) all)
 
-pub cut_answer : (sh : Shape) (last : Last) (ls : List Line) (e : RowFault) → HandedOn ls (Err e) → Err e ≡ entry_answer sh last ls
+pub cut_answer : (sh : Shape) (last : Option Last) (ls : List Line) (e : RowFault) → HandedOn ls (Err e) → Err e ≡ entry_answer sh last ls
 cut_answer sh last [] e told = let z : ◌≡◌ {A = ℕ} 0 1 = cc in absurd (omega arith)
 cut_answer sh last (l ∷ ls) e told = sym (ap (λ o. none_or o (entry_of (fields l))) (cut_fault sh last l e told))
 
-pub number_answer : (sh : Shape) (last : Last) (ls : List Line) (row : Row) (f : FieldFault) → HandedOn ls (Ok (Some row)) → Err f ≡ numbers_answer sh (fields_of row) → Err (Field f) ≡ entry_answer sh last ls
+pub number_answer : (sh : Shape) (last : Option Last) (ls : List Line) (row : Row) (f : FieldFault) → HandedOn ls (Ok (Some row)) → Err f ≡ numbers_answer sh (fields_of row) → Err (Field f) ≡ entry_answer sh last ls
 number_answer sh last [] row f handed told = let z : ◌≡◌ {A = ℕ} 0 1 = cc in absurd (omega arith)
 number_answer sh last (l ∷ ls) row f handed told =
     let no_f = by_err (first_no (number_questions sh (fields_of row))) (entry_of (fields_of row)) f told in
     sym (ap (λ o. none_or o (entry_of (fields l))) (number_fault sh last l f handed.sound (ap (λ fs. first_no (number_questions sh fs)) (sym handed.parts) ∙ no_f)))
 
-pub place_answer : (sh : Shape) (last : Last) (ls : List Line) (row : Row) (e : Entry) (yes_no : Bool) → HandedOn ls (Ok (Some row)) → Ok e ≡ numbers_answer sh (fields_of row) → yes_no ≡ follows last (place_of e)
+pub place_answer : (sh : Shape) (last : Option Last) (ls : List Line) (row : Row) (e : Entry) (yes_no : Bool) → HandedOn ls (Ok (Some row)) → Ok e ≡ numbers_answer sh (fields_of row) → yes_no ≡ follows last (place_of e)
     → cond yes_no (Ok (Some e)) (Err OutOfOrder) ≡ entry_answer sh last ls
 place_answer sh last [] row e b handed told placed = let z : ◌≡◌ {A = ℕ} 0 1 = cc in absurd (omega arith)
 place_answer sh last (l ∷ ls) row e b handed told placed =

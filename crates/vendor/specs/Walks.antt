@@ -1,5 +1,5 @@
 -- What a reader has still before it. Assumes nothing.
-use Rattle.std.specs.Prelude.{◌≡◌, ℕ, ◌-◌, Bool, cond, List, [], ◌∷◌, length, take, drop, Some, None, Ok, Err, Option, Result, ◌==◌, nat_le}
+use Rattle.std.specs.Prelude.{◌≡◌, ℕ, ◌-◌, Bool, cond, List, [], ◌∷◌, length, take, drop, is_some, Some, None, Ok, Err, Option, Result, ◌==◌, nat_le}
 use Rattle.vendor.specs.declared.faults.RowFault.{RowFault}
 use Rattle.vendor.specs.declared.faults.RowFault.TheVariants.{UnknownLetter, FieldCount}
 use Rattle.vendor.specs.declared.reader.Reader.{Reader}
@@ -10,7 +10,7 @@ use Rattle.vendor.specs.Files.{lines}
 use Rattle.vendor.specs.declared.rows.Shape.{Shape}
 use Rattle.vendor.specs.declared.rows.Last.{Last}
 use Rattle.vendor.specs.declared.rows.Entry.{Entry}
-use Rattle.vendor.specs.Rows.{Line, row_fault, entry_of, place_of, group, known, width, fields, fields_of, first_no, cut_questions}
+use Rattle.vendor.specs.Rows.{Line, row_fault, entry_of, place_of, group, width, fields, fields_of, first_no, cut_questions}
 
 -- the fields of a row that ends at `end`, from `at` on: none past its end
 unfoldable pub fields_left : List ℕ → ℕ → ℕ → List (List ℕ)
@@ -25,7 +25,7 @@ pub record Kept (before after : Reader) : Type 0 where
   pub last : after.last ≡ before.last
 
 abbrev pub letter_questions : List (List ℕ) → List (Bool × RowFault)
-letter_questions fs = (known (group fs), UnknownLetter) ∷ ((length fs == width (group fs)), FieldCount) ∷ []
+letter_questions fs = (is_some (group fs), UnknownLetter) ∷ ((length fs == width (group fs)), FieldCount) ∷ []
 
 abbrev pub rows_ahead : Reader → List Line
 rows_ahead r = lines (drop r.at r.file.now)
@@ -56,12 +56,12 @@ none_or None x = Ok (Some x)
 none_or (Some e) x = Err e
 
 -- the next row read: its numbers, or its fault
-abbrev pub entry_answer : Shape → Last → List Line → Result (Option Entry) RowFault
+abbrev pub entry_answer : Shape → Option Last → List Line → Result (Option Entry) RowFault
 entry_answer sh last [] = Ok None
 entry_answer sh last (l ∷ ls) = none_or (row_fault sh last l) (entry_of (fields l))
 
 -- the last row read: it moves on only to a row without fault
-abbrev pub last_after : Last → Result (Option Entry) RowFault → Last
+abbrev pub last_after : Option Last → Result (Option Entry) RowFault → Option Last
 last_after last (Ok None) = last
-last_after last (Ok (Some e)) = place_of e
+last_after last (Ok (Some e)) = Some (place_of e)
 last_after last (Err f) = last

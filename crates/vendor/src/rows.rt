@@ -68,10 +68,9 @@ pub enum Entry {
     },
 }
 
-// A letter of the file, in the order in which they come; `Nothing` is before the first row.
+// A letter of the file, in the order in which they come.
 #[derive(Clone, Copy)]
 pub enum Group {
-    Nothing,
     Outputs,
     System,
     Lines,
@@ -158,31 +157,31 @@ impl Row<'_> {
     }
 }
 
-impl Entry {
-    // Where the row stands in the order of the file.
-    pub fn place(&self) -> Last
-        ensures { result ≡ place_of self.now }
-    {
-        match self {
+// Where the row stands in the order of the file.
+impl From<&Entry> for Last {
+    ghost from_gives = { λ entry place. place ≡ place_of entry.now };
+
+    fn from(entry: &Entry) -> Last {
+        match *entry {
             Entry::Output { row, period, .. } => Last {
                 group: Group::Outputs,
-                index: *row,
-                period: *period,
+                index: row,
+                period,
             },
             Entry::System { period, .. } => Last {
                 group: Group::System,
                 index: 0,
-                period: *period,
+                period,
             },
             Entry::Line { line, period, .. } => Last {
                 group: Group::Lines,
-                index: *line,
-                period: *period,
+                index: line,
+                period,
             },
             Entry::Ramp { row, period, .. } => Last {
                 group: Group::Ramps,
-                index: *row,
-                period: *period,
+                index: row,
+                period,
             },
         }
     }

@@ -1,12 +1,12 @@
 // The rows of a file, which end in byte 10, and their fields, which stand between semicolons.
 ghost use Rattle.std.specs.Prelude.{◌≡◌, ℕ, ◌+◌, ◌<◌, ◌≤◌, [], ◌∷◌, length, drop, Some, MatchOption, MatchResult, ◌≢◌, slice_index};
 ghost use Rattle.vendor.specs.Files.{lines};
-ghost use Rattle.vendor.specs.Rows.{fields_of, first_no, start};
+ghost use Rattle.vendor.specs.Rows.{fields_of, first_no};
 ghost use Rattle.vendor.specs.Walks.{Kept, fields_ahead, letter_questions, rows_ahead, tail, HandedOn};
 
 use crate::faults::RowFault;
 use crate::reader::Reader;
-use crate::rows::{Group, Last, Row};
+use crate::rows::Row;
 
 const ROW_END: u8 = b'\n';
 
@@ -132,16 +132,12 @@ impl<'a> Reader<'a> {
 
     pub fn new(file: &'a [u8]) -> Reader<'a>
         ensures rows { rows_ahead result ≡ lines file.now }
-        ensures last { result.last ≡ start }
+        ensures last { result.last ≡ None }
     {
         Reader {
             file,
             at: 0,
-            last: Last {
-                group: Group::Nothing,
-                index: 0,
-                period: 0,
-            },
+            last: None,
         }
     }
 
