@@ -22,7 +22,7 @@ pub struct Tables<'a> {
 }
 
 // How many rows a file has of each letter: R, S, L and G.
-#[derive(Clone, Copy)]
+#[derive(Clone, Copy, PartialEq, Eq, Debug, Default)]
 pub struct Counts {
     pub outputs: usize,
     pub system: usize,
@@ -36,10 +36,7 @@ const MOST_ROWS: usize = 32;
 fn exact(len: usize, items: usize, periods: usize) -> bool
     ensures { result ≡ (len == items * periods) }
 {
-    match items.checked_mul(periods) {
-        Some(cells) => len == cells,
-        None => false,
-    }
+    items.checked_mul(periods) == Some(len)
 }
 
 impl Tables<'_> {
