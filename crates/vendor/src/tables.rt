@@ -2,7 +2,7 @@
 mod reading;
 
 ghost use Rattle.std.specs.Prelude.{◌≡◌, ◌+◌, ◌*◌, ◌<◌, ◌≤◌, length, replicate, pos, ◌==◌};
-ghost use Rattle.vendor.specs.Files.{RightLengths, contents, sized, one_more};
+ghost use Rattle.vendor.specs.Files.{RightLengths, cell, contents, sized, one_more};
 ghost use Rattle.vendor.specs.Fills.{SamePlaces, cleared, written, NamesACell, Room};
 
 use crate::rows::{Entry, Shape};
@@ -37,6 +37,16 @@ fn exact(len: usize, items: usize, periods: usize) -> bool
     ensures { result ≡ (len == items * periods) }
 {
     items.checked_mul(periods) == Some(len)
+}
+
+impl Shape {
+    // The cell of an item in a period.
+    fn cell(&self, item: usize, period: usize) -> usize
+        requires { (1 ≤ period) × (cell self.now item period < 18446744073709551616) }
+        ensures { result ≡ cell self.now item period }
+    {
+        item * self.periods + (period - 1)
+    }
 }
 
 impl Tables<'_> {
@@ -74,29 +84,27 @@ impl Tables<'_> {
         ensures held { contents self.new ≡ written shape.now entry.now (contents self.old) }
         ensures places { SamePlaces self.old self.new }
     {
-        match entry {
+        match *entry {
             Entry::Output {
                 row,
                 period,
                 mark,
                 output,
             } => {
-                let cell = *row * shape.periods + (*period - 1);
-                self.marks[cell] = *mark;
-                self.outputs[cell] = *output;
+                let cell = shape.cell(row, period);
+                self.marks[cell] = mark;
+                self.outputs[cell] = output;
             }
-            Entry::System { period, price } => {
-                self.system[*period - 1] = *price;
-            }
+            Entry::System { period, price } => self.system[period - 1] = price,
             Entry::Line {
                 line,
                 period,
                 upper,
                 lower,
             } => {
-                let cell = *line * shape.periods + (*period - 1);
-                self.upper[cell] = *upper;
-                self.lower[cell] = *lower;
+                let cell = shape.cell(line, period);
+                self.upper[cell] = upper;
+                self.lower[cell] = lower;
             }
             Entry::Ramp {
                 row,
@@ -104,9 +112,9 @@ impl Tables<'_> {
                 rise,
                 fall,
             } => {
-                let cell = *row * shape.periods + (*period - 1);
-                self.rise[cell] = *rise;
-                self.fall[cell] = *fall;
+                let cell = shape.cell(row, period);
+                self.rise[cell] = rise;
+                self.fall[cell] = fall;
             }
         }
     }
