@@ -1,4 +1,5 @@
 // The lent tables that a file fills.
+mod cells;
 mod reading;
 
 ghost use Rattle.std.specs.Prelude.{◌≡◌, ◌+◌, ◌*◌, ◌<◌, ◌≤◌, length, replicate, pos, ◌==◌};
@@ -6,6 +7,7 @@ ghost use Rattle.vendor.specs.Files.{RightLengths, cell, contents, sized, one_mo
 ghost use Rattle.vendor.specs.Fills.{SamePlaces, cleared, written, NamesACell, Room};
 
 use crate::rows::{Entry, Shape};
+pub use cells::Cells;
 pub use reading::read;
 
 // Cells lie item by item and then by period: rows by periods for marks, outputs, rise and fall prices,
