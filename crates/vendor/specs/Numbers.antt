@@ -22,9 +22,5 @@ below_zero (Some zero) = None
 below_zero (Some (suc n)) = Some (negsuc n)
 
 -- plain digits, and a minus (byte 45) before them where the number is below zero
-abbrev pub number_written : List ℕ → Option ℤ
-number_written text = cond (slice_index text 0 == 45) (below_zero (magnitude_of (drop 1 text))) (at_least_zero (magnitude_of text))
-
--- the same, kept shut for what only passes it on
 unfoldable pub number : List ℕ → Option ℤ
-number text = number_written text
+number text = cond (slice_index text 0 == 45) (below_zero (magnitude_of (drop 1 text))) (at_least_zero (magnitude_of text))

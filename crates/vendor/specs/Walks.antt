@@ -1,5 +1,5 @@
 -- What a reader has still before it. Assumes nothing.
-use Rattle.std.specs.Prelude.{◌≡◌, ℕ, ◌-◌, Bool, cond, List, [], ◌∷◌, length, take, drop, is_some, Some, None, Ok, Err, Option, Result, ◌==◌, nat_le}
+use Rattle.std.specs.Prelude.{◌≡◌, ℕ, ◌+◌, ◌-◌, ◌<◌, ◌≤◌, Bool, cond, List, [], ◌∷◌, length, take, drop, is_some, Some, None, Ok, Err, Option, Result, ◌==◌, nat_le}
 use Rattle.vendor.specs.declared.faults.RowFault.{RowFault}
 use Rattle.vendor.specs.declared.faults.RowFault.TheVariants.{UnknownLetter, FieldCount}
 use Rattle.vendor.specs.declared.reader.Reader.{Reader}
@@ -18,6 +18,10 @@ fields_left file at end = cond (nat_le at end) (pieces 59 (take (end - at) (drop
 
 abbrev pub fields_ahead : Reader → ℕ → List (List ℕ)
 fields_ahead r end = fields_left r.file.now r.at end
+
+-- inside the row that ends at `end`: at one of its fields, or just past its end
+abbrev pub InRow : Reader → ℕ → Type 0
+InRow r end = (r.at ≤ end + 1) × (end < length r.file.now)
 
 -- only the position moved
 pub record Kept (before after : Reader) : Type 0 where

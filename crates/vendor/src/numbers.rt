@@ -2,7 +2,7 @@
 ghost use Rattle.std.specs.Prelude.{◌≡◌, ◌<◌, ◌≤◌, length, cond, Some, None, IfSome};
 ghost use Rattle.std.specs.Str.{all_ascii_digits};
 ghost use Rattle.std.specs.Str.Parse.{digits_value};
-ghost use Rattle.vendor.specs.Numbers.{number_written, magnitude_of};
+ghost use Rattle.vendor.specs.Numbers.{number, magnitude_of};
 
 const MOST_DIGITS: usize = 8;
 
@@ -35,8 +35,9 @@ fn magnitude(digits: &[u8]) -> Option<u32>
 }
 
 // The number that a field writes, or `None` where it writes none. Zero is written without a minus.
+#[tactic(auto, unfolding(crate::specs::Numbers::number))]
 pub fn parse(text: &[u8]) -> Option<i32>
-    ensures { result ≡ number_written text.now }
+    ensures { result ≡ number text.now }
 {
     match text {
         [b'-', digits @ ..] => magnitude(digits)

@@ -1,6 +1,5 @@
 // The four kinds of row: as parts of the file, and as the numbers that these write.
 ghost use Rattle.std.specs.Prelude.{◌≡◌};
-ghost use Rattle.vendor.specs.Numbers.{number as number-of-text};
 ghost use Rattle.vendor.specs.Rows.{any, one_of, field_answer, natural_answer, fields_of, numbers_answer, place_of};
 
 use crate::faults::FieldFault;
@@ -87,17 +86,11 @@ pub struct Last {
 
 const MARKS: usize = 256;
 
-fn written(text: &[u8]) -> Option<i32>
-    ensures { result ≡ number-of-text text.now }
-{
-    parse(text)
-}
-
 // The number in a field, which stands at place `field` in its row.
 fn number(text: &[u8], field: usize) -> Result<i32, FieldFault>
     ensures { result ≡ field_answer any field text.now }
 {
-    written(text).ok_or(FieldFault::Malformed { field })
+    parse(text).ok_or(FieldFault::Malformed { field })
 }
 
 // The number in a field, of which there may be `count` from `FIRST` on.

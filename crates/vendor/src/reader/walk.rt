@@ -3,7 +3,7 @@ ghost use Rattle.std.specs.Prelude.{◌≡◌, ℕ, ◌+◌, ◌<◌, ◌≤◌,
 ghost use Rattle.vendor.specs.declared.faults.RowFault.TheVariants.{FieldCount};
 ghost use Rattle.vendor.specs.Files.{lines};
 ghost use Rattle.vendor.specs.Rows.{fields_of, first_no};
-ghost use Rattle.vendor.specs.Walks.{Kept, fields_ahead, letter_questions, rows_ahead, tail, HandedOn};
+ghost use Rattle.vendor.specs.Walks.{InRow, Kept, fields_ahead, letter_questions, rows_ahead, tail, HandedOn};
 
 use crate::faults::RowFault;
 use crate::reader::Reader;
@@ -25,9 +25,9 @@ pub fn find(bytes: &[u8], byte: u8) -> usize
 impl<'a> Reader<'a> {
     // The next field of the row that ends at `end`, or `None` past its last.
     fn next_field(&mut self, end: usize) -> Option<&'a [u8]>
-        requires { (self.old.at ≤ end + 1) × (end < length self.old.file.now) }
+        requires { InRow self.old end }
         ensures kept { Kept self.old self.new }
-        ensures within { self.new.at ≤ end + 1 }
+        ensures within { InRow self.new end }
         ensures cases { MatchOption result (fields_ahead self.old end ≡ []) (λ f. fields_ahead self.old end ≡ f.now ∷ fields_ahead self.new end) }
     {
         if self.at > end {
@@ -41,9 +41,9 @@ impl<'a> Reader<'a> {
 
     // The next field, or the fault of a row that has none left.
     fn field(&mut self, end: usize) -> Result<&'a [u8], RowFault>
-        requires { (self.old.at ≤ end + 1) × (end < length self.old.file.now) }
+        requires { InRow self.old end }
         ensures kept { Kept self.old self.new }
-        ensures within { self.new.at ≤ end + 1 }
+        ensures within { InRow self.new end }
         ensures cases { MatchResult result (λ f. fields_ahead self.old end ≡ f.now ∷ fields_ahead self.new end) (λ e. (fields_ahead self.old end ≡ []) × (e ≡ FieldCount)) }
     {
         self.next_field(end).ok_or(RowFault::FieldCount)
@@ -51,9 +51,9 @@ impl<'a> Reader<'a> {
 
     // The fields of a row with this letter, taken one at a time.
     fn kind(&mut self, letter: u8, end: usize) -> Result<Row<'a>, RowFault>
-        requires { (self.old.at ≤ end + 1) × (end < length self.old.file.now) }
+        requires { InRow self.old end }
         ensures kept { Kept self.old self.new }
-        ensures within { self.new.at ≤ end + 1 }
+        ensures within { InRow self.new end }
         ensures cases { MatchResult result (λ row. (letter ∷ []) ∷ fields_ahead self.old end ≡ fields_of row ++ fields_ahead self.new end) (λ e. first_no (letter_questions ((letter ∷ []) ∷ fields_ahead self.old end)) ≡ Some e) }
     {
         match char::from(letter) {
