@@ -111,7 +111,7 @@ module _ (sh : Shape) (all : List Entry) where
 
 no_row : (o : Option RowFault) (n : ℕ) (later : Option FileFault) → row_or o n later ≡ None → (o ≡ None) × (later ≡ None)
 no_row None n later e = (refl, e)
-no_row (Some f) n later e = let z : ◌≡◌ {A = ℕ} 0 1 = cc in absurd (omega arith)
+no_row (Some f) n later e = absurd (cc)
 
 pub faultless : (sh : Shape) (n : ℕ) (last : Option Last) (ls : List Line) → fault_from sh n last ls ≡ None → Faultless sh last ls
 faultless sh n last [] e = tt

@@ -59,11 +59,11 @@ told_magnitude ds n =
     let same : digits_value 10 ds ≡ n = cc in
     let text = decimal-digits_value by_test ds (digits_told ds p.each) p.short.some (λ z. omega (arith, p.short.spare z)) (omega arith) in
     (sym text ∙ ap decimal same, omega arith))
-    (λ is e. let bad : ◌≡◌ {A = ℕ} 0 1 = cc in absurd (omega arith))
+    (λ is e. absurd (cc))
 
 -- a text whose own magnitude is the number
 unsigned : (ds : List ℕ) (m : Option ℕ) (z : ℤ) → magnitude_of ds ≡ m → at_least_zero m ≡ Some z → WrittenAs ds z
-unsigned ds None z is e = let bad : ◌≡◌ {A = ℕ} 0 1 = cc in absurd (omega arith)
+unsigned ds None z is e = absurd (cc)
 unsigned ds (Some n) z is e =
     let k = told_magnitude ds n is in
     let same : pos n ≡ z = cc in
@@ -71,8 +71,8 @@ unsigned ds (Some n) z is e =
 
 -- a text that is a minus, and after it the magnitude of a number below zero
 minus : (ds : List ℕ) (m : Option ℕ) (z : ℤ) → magnitude_of ds ≡ m → below_zero m ≡ Some z → WrittenAs (45 ∷ ds) z
-minus ds None z is e = let bad : ◌≡◌ {A = ℕ} 0 1 = cc in absurd (omega arith)
-minus ds (Some zero) z is e = let bad : ◌≡◌ {A = ℕ} 0 1 = cc in absurd (omega arith)
+minus ds None z is e = absurd (cc)
+minus ds (Some zero) z is e = absurd (cc)
 minus ds (Some (suc n)) z is e =
     let k = told_magnitude ds (suc n) is in
     let same : negsuc n ≡ z = cc in
@@ -81,7 +81,7 @@ minus ds (Some (suc n)) z is e =
 -- a text that is a number is the decimal text of that number
 written : (bs : List ℕ) (z : ℤ) → number bs ≡ Some z → WrittenAs bs z
 unfolding number
-written [] z = λ e. let bad : ◌≡◌ {A = ℕ} 0 1 = cc in absurd (omega arith)
+written [] z = λ e. absurd (cc)
 written (b ∷ bs) z =
     cond_both (eqb b 45) _ _ (λ o. o ≡ Some z → WrittenAs (b ∷ bs) z)
     (λ is e. subst (λ c. WrittenAs (c ∷ bs) z) (sym (eqb-true b 45 is)) (minus bs (magnitude_of bs) z refl e))

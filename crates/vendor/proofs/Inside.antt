@@ -20,21 +20,21 @@ use Rattle.vendor.proofs.Questions.{order, numbers, in_fields}
 pub all_yes : {F : Type 0} (qs rs : List (Bool × F)) → first_no (qs ++ rs) ≡ None → (first_no qs ≡ None) × (first_no rs ≡ None)
 all_yes [] rs all = (refl, all)
 all_yes ((true, e) ∷ qs) rs all = all_yes qs rs all
-all_yes ((false, e) ∷ qs) rs all = let z : ◌≡◌ {A = ℕ} 0 1 = cc in absurd (omega arith)
+all_yes ((false, e) ∷ qs) rs all = absurd (cc)
 
 pub each_yes : {F : Type 0} (qs : List (Bool × F)) → first_no qs ≡ None → AllByRecursion (λ q. q.0 ≡ true) qs
 each_yes [] all = tt
 each_yes ((true, e) ∷ qs) all = (refl, each_yes qs all)
-each_yes ((false, e) ∷ qs) all = let z : ◌≡◌ {A = ℕ} 0 1 = cc in absurd (omega arith)
+each_yes ((false, e) ∷ qs) all = absurd (cc)
 
 none_mapped : {F G : Type 0} (f : F → G) (o : Option F) → option_map f o ≡ None → o ≡ None
 none_mapped f None e = refl
-none_mapped f (Some x) e = let z : ◌≡◌ {A = ℕ} 0 1 = cc in absurd (omega arith)
+none_mapped f (Some x) e = absurd (cc)
 
 -- a field that is one of n numbers from `from` on
 pub one_of_n : (from n : ℕ) (z : ℤ) → one_of from n z ≡ true → (from ≤ natural z) × (natural z < from + n)
 one_of_n from n (pos k) e = let p = and_parts (leb from k) (ltb k (from + n)) e in (leb-true from k p.0, ltb-true k (from + n) p.1)
-one_of_n from n (negsuc k) e = let z : ◌≡◌ {A = ℕ} 0 1 = cc in absurd (omega arith)
+one_of_n from n (negsuc k) e = absurd (cc)
 
 cell_below : (items periods item period : ℕ) → item < items → 1 ≤ period → period ≤ periods → item * periods + (period - 1) < items * periods
 cell_below items periods item period a b c = omega (arith, mul-add-lt item periods (period - 1) items a (omega arith))
@@ -62,7 +62,7 @@ LiesIn sh (entry.Line line period upper lower) = (line < sh.lines) × (1 ≤ per
 LiesIn sh (entry.Ramp row period rise fall) = (row < sh.size) × (1 ≤ period) × (period ≤ sh.periods)
 
 lies_for : (sh : Shape) (g : Option Group) (letter : List ℕ) (fs : List (List ℕ)) → is_some g ≡ true → suc (length fs) ≡ width g → first_no (field_questions 2 (columns sh g) fs) ≡ None → LiesIn sh (entry_for g (letter ∷ fs))
-lies_for sh None letter fs k w all = let z : ◌≡◌ {A = ℕ} 0 1 = cc in absurd (omega arith)
+lies_for sh None letter fs k w all = absurd (cc)
 lies_for sh (Some Outputs) letter [] k w all = absurd (omega arith)
 lies_for sh (Some Outputs) letter (a ∷ []) k w all = absurd (omega arith)
 lies_for sh (Some Outputs) letter (a ∷ b ∷ fs) k w all = item_period sh 2 sh.size (one_of 0 256 ∷ any ∷ []) a b fs all
@@ -98,7 +98,7 @@ sound sh last l none =
     }
 
 lies_at : (sh : Shape) (fs : List (List ℕ)) → is_some (group fs) ≡ true → length fs ≡ width (group fs) → first_no (number_questions sh fs) ≡ None → LiesIn sh (entry_of fs)
-lies_at sh [] k w all = let z : ◌≡◌ {A = ℕ} 0 1 = cc in absurd (omega arith)
+lies_at sh [] k w all = absurd (cc)
 lies_at sh (letter ∷ fs) k w all = lies_for sh (group (letter ∷ fs)) letter fs k w all
 
 pub lies_in : (sh : Shape) (last : Option Last) (l : Line) → row_fault sh last l ≡ None → LiesIn sh (entry_of (fields l))

@@ -72,7 +72,7 @@ module _ (sh : Shape) where
       before_all (suc j) h = in_tail last l ls j ∙ r.before j (omega arith)
 
   first_in : (n : ℕ) (last : Option Last) (ls : List Line) (g : FileFault) → fault_from sh n last ls ≡ Some g → FirstIn n last ls g
-  first_in n last [] g e = let z : ◌≡◌ {A = ℕ} 0 1 = cc in absurd (omega arith)
+  first_in n last [] g e = absurd (cc)
   first_in n last (l ∷ ls) g e = by (row_fault sh last l) refl e (first_in (n + 1) (Some (place l)) ls g)
     where
       by : (o : Option RowFault) → row_fault sh last l ≡ o → row_or o n (fault_from sh (n + 1) (Some (place l)) ls) ≡ Some g → (fault_from sh (n + 1) (Some (place l)) ls ≡ Some g → FirstIn (n + 1) (Some (place l)) ls g) → FirstIn n last (l ∷ ls) g
@@ -162,7 +162,7 @@ module _ {A : Type 0} (sh : Shape) (g : Group) (pick : ℤ × ℤ → A) where
       by true same is =
           let p : ◌≡◌ {A = ℕ × A} (cell sh (place_of e).index (place_of e).period, pick (numbers_of e)) (i, v) = cc in
           record { letter = eqb-true _ _ same; where_it_is = sym (ap (λ (q : ℕ × A). q.0) p) }
-      by false same is = let z : ◌≡◌ {A = ℕ} 0 1 = cc in absurd (omega arith)
+      by false same is = absurd (cc)
 
   -- of two rows in the order of the file, not both name one cell
   not_both : (e d : Entry) (i : ℕ) (v w : A) → follows (Some (place_of e)) (place_of d) ≡ true → LiesIn sh e → LiesIn sh d → told sh g pick e ≡ Some (i, v) → told sh g pick d ≡ Some (i, w) → ⊥

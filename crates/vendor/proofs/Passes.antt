@@ -39,10 +39,10 @@ pub record ReadOn (sh : Shape) (last : Option Last) (ls : List Line) (e : Entry)
 module _ (sh : Shape) (last : Option Last) where
   read_row : (l : Line) (e : Entry) (o : Option RowFault) → Ok (Some e) ≡ none_or o (entry_of (fields l)) → (o ≡ None) × (e ≡ entry_of (fields l))
   read_row l e None told = (refl, cc)
-  read_row l e (Some f) told = let z : ◌≡◌ {A = ℕ} 0 1 = cc in absurd (omega arith)
+  read_row l e (Some f) told = absurd (cc)
 
   pub read_on : (ls : List Line) (e : Entry) → Ok (Some e) ≡ entry_answer sh last ls → ReadOn sh last ls e
-  read_on [] e told = let z : ◌≡◌ {A = ℕ} 0 1 = cc in absurd (omega arith)
+  read_on [] e told = absurd (cc)
   read_on (l ∷ ls) e told = let r = read_row l e (row_fault sh last l) told in record { row = l; is = refl; sound = r.0; told = r.1 }
 
   pub read_out : (ls : List Line) → Ok None ≡ entry_answer sh last ls → ls ≡ []
@@ -50,8 +50,8 @@ module _ (sh : Shape) (last : Option Last) where
   read_out (l ∷ ls) told = never (row_fault sh last l) told
     where
       never : (o : Option RowFault) → Ok None ≡ none_or o (entry_of (fields l)) → (l ∷ ls) ≡ []
-      never None told = let z : ◌≡◌ {A = ℕ} 0 1 = cc in absurd (omega arith)
-      never (Some f) told = let z : ◌≡◌ {A = ℕ} 0 1 = cc in absurd (omega arith)
+      never None told = absurd (cc)
+      never (Some f) told = absurd (cc)
 
 -- the first pass, before the row n: what is answered so far and from here on is the file's answer
 pub record Checking (sh : Shape) (file : List ℕ) (n : ℕ) (last : Option Last) (c : Counts) (ahead : List Line) : Type 0 where

@@ -15,10 +15,10 @@ use Rattle.vendor.specs.Walks.{HandedOn, entry_answer, none_or}
 asked_on : {F : Type 0} (qs rs : List (Bool × F)) → first_no qs ≡ None → first_no (qs ++ rs) ≡ first_no rs
 asked_on [] rs all = refl
 asked_on ((true, e) ∷ qs) rs all = asked_on qs rs all
-asked_on ((false, e) ∷ qs) rs all = let z : ◌≡◌ {A = ℕ} 0 1 = cc in absurd (omega arith)
+asked_on ((false, e) ∷ qs) rs all = absurd (cc)
 
 stopped : {F : Type 0} (qs rs : List (Bool × F)) (f : F) → first_no qs ≡ Some f → first_no (qs ++ rs) ≡ Some f
-stopped [] rs f told = let z : ◌≡◌ {A = ℕ} 0 1 = cc in absurd (omega arith)
+stopped [] rs f told = absurd (cc)
 stopped ((true, e) ∷ qs) rs f told = stopped qs rs f told
 stopped ((false, e) ∷ qs) rs f told = told
 
@@ -29,12 +29,12 @@ in_fields ((false, e) ∷ qs) = refl
 
 module _ {A F : Type 0} where
   by_err : (o : Option F) (x : A) (e : F) → Err e ≡ unless_no o x → o ≡ Some e
-  by_err None x e told = let z : ◌≡◌ {A = ℕ} 0 1 = cc in absurd (omega arith)
+  by_err None x e told = absurd (cc)
   by_err (Some f) x e told = cc
 
   by_ok : (o : Option F) (x y : A) → Ok y ≡ unless_no o x → (o ≡ None) × (y ≡ x)
   by_ok None x y told = (refl, cc)
-  by_ok (Some f) x y told = let z : ◌≡◌ {A = ℕ} 0 1 = cc in absurd (omega arith)
+  by_ok (Some f) x y told = absurd (cc)
 
 module _ (sh : Shape) (last : Option Last) (l : Line) where
   abbrev pub order : List (Bool × RowFault)
@@ -58,18 +58,18 @@ module _ (sh : Shape) (last : Option Last) (l : Line) where
       asked_on (cut_questions l) (numbers ++ order) cut ∙ asked_on numbers order (in_fields (number_questions sh (fields l)) ∙ ap (option_map Field) all)
 
 pub cut_answer : (sh : Shape) (last : Option Last) (ls : List Line) (e : RowFault) → HandedOn ls (Err e) → Err e ≡ entry_answer sh last ls
-cut_answer sh last [] e told = let z : ◌≡◌ {A = ℕ} 0 1 = cc in absurd (omega arith)
+cut_answer sh last [] e told = absurd (cc)
 cut_answer sh last (l ∷ ls) e told = sym (ap (λ o. none_or o (entry_of (fields l))) (cut_fault sh last l e told))
 
 pub number_answer : (sh : Shape) (last : Option Last) (ls : List Line) (row : Row) (f : FieldFault) → HandedOn ls (Ok (Some row)) → Err f ≡ numbers_answer sh (fields_of row) → Err (Field f) ≡ entry_answer sh last ls
-number_answer sh last [] row f handed told = let z : ◌≡◌ {A = ℕ} 0 1 = cc in absurd (omega arith)
+number_answer sh last [] row f handed told = absurd (cc)
 number_answer sh last (l ∷ ls) row f handed told =
     let no_f = by_err (first_no (number_questions sh (fields_of row))) (entry_of (fields_of row)) f told in
     sym (ap (λ o. none_or o (entry_of (fields l))) (number_fault sh last l f handed.sound (ap (λ fs. first_no (number_questions sh fs)) (sym handed.parts) ∙ no_f)))
 
 pub place_answer : (sh : Shape) (last : Option Last) (ls : List Line) (row : Row) (e : Entry) (yes_no : Bool) → HandedOn ls (Ok (Some row)) → Ok e ≡ numbers_answer sh (fields_of row) → yes_no ≡ follows last (place_of e)
     → cond yes_no (Ok (Some e)) (Err OutOfOrder) ≡ entry_answer sh last ls
-place_answer sh last [] row e b handed told placed = let z : ◌≡◌ {A = ℕ} 0 1 = cc in absurd (omega arith)
+place_answer sh last [] row e b handed told placed = absurd (cc)
 place_answer sh last (l ∷ ls) row e b handed told placed =
     let k = by_ok (first_no (number_questions sh (fields_of row))) (entry_of (fields_of row)) e told in
     let same : e ≡ entry_of (fields l) = k.1 ∙ ap entry_of handed.parts in

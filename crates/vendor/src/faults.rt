@@ -3,6 +3,7 @@ ghost use Rattle.std.specs.Prelude.{◌≡◌, Some};
 ghost use Rattle.vendor.specs.declared.faults.RowFault.TheVariants.{Field};
 ghost use Rattle.vendor.specs.Faults.{number_of, row_of, field_of, number_of_row, text_of};
 
+use std::error::Error;
 use std::fmt;
 
 // A field, counted from 1 in its row.
@@ -95,3 +96,5 @@ impl fmt::Display for FileFault {
         write!(f, "{};{};{}", self.number(), self.row(), self.field())
     }
 }
+
+impl Error for FileFault {}

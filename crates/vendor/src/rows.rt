@@ -6,7 +6,7 @@ use crate::faults::FieldFault;
 use crate::numbers::parse;
 
 // What a file is read for: the day's periods and lines, and the size told for the fleet.
-#[derive(Clone, Copy)]
+#[derive(Clone, Copy, PartialEq, Eq, Debug)]
 pub struct Shape {
     pub periods: usize,
     pub lines: usize,
@@ -14,7 +14,7 @@ pub struct Shape {
 }
 
 // A row as it stands in the file; each field is a part of the file.
-#[derive(Clone, Copy)]
+#[derive(Clone, Copy, PartialEq, Eq, Debug)]
 pub enum Row<'a> {
     Output {
         row: &'a [u8],
@@ -41,7 +41,7 @@ pub enum Row<'a> {
 }
 
 // The same with its numbers read; a row, a line and a period lie in the shape that it was read for.
-#[derive(Clone, Copy)]
+#[derive(Clone, Copy, PartialEq, Eq, Debug)]
 pub enum Entry {
     Output {
         row: usize,

@@ -110,7 +110,7 @@ impl<'a> Reader<'a> {
         }
     }
 
-    // The row that begins here, or `None` past the last, and where the next one begins.
+    // The row that begins here, or `None` past the last, and where the next one begins. The reader moves on in `next_row`.
     fn row_here(&mut self) -> (Result<Option<Row<'a>>, RowFault>, usize)
         ensures answer { HandedOn (rows_ahead self.old) result.0 }
         ensures within { result.1 ≤ length self.old.file.now }
