@@ -6,10 +6,11 @@ use Rattle.vendor.specs.declared.rows.Last.{Last}
 use Rattle.vendor.specs.declared.rows.Entry.{Entry}
 use Rattle.vendor.specs.declared.tables.Counts.{Counts}
 use Rattle.vendor.specs.Files as Files
-use Rattle.vendor.specs.Files.{lines, rows_answer, none_counted, lines_of, answered, rows_answer_from}
+use Rattle.vendor.specs.Files.{lines, rows_answer, none_counted, lines_of, rows_answer_from}
 use Rattle.vendor.specs.Pieces.{pieces, onto}
-use Rattle.vendor.specs.Rows.{Line, fields, entry_of, row_fault}
-use Rattle.vendor.specs.Walks.{entry_answer, none_or, tail}
+use Rattle.vendor.specs.Rows.{Line, fields, unless_no, entry_of, row_fault}
+use Rattle.vendor.specs.Walks.{entry_answer, tail}
+use Rattle.vendor.proofs.Questions.{by_ok}
 use Rattle.vendor.proofs.Walking.{pieces_some, lines_cons}
 
 -- a file has no more rows than bytes
@@ -37,9 +38,8 @@ pub record ReadOn (sh : Shape) (last : Option Last) (ls : List Line) (e : Entry)
   pub told : e ≡ entry_of (fields row)
 
 module _ (sh : Shape) (last : Option Last) where
-  read_row : (l : Line) (e : Entry) (o : Option RowFault) → Ok (Some e) ≡ none_or o (entry_of (fields l)) → (o ≡ None) × (e ≡ entry_of (fields l))
-  read_row l e None told = (refl, cc)
-  read_row l e (Some f) told = absurd (cc)
+  read_row : (l : Line) (e : Entry) (o : Option RowFault) → Ok (Some e) ≡ unless_no o (Some (entry_of (fields l))) → (o ≡ None) × (e ≡ entry_of (fields l))
+  read_row l e o told = let k = by_ok o (Some (entry_of (fields l))) (Some e) told in (k.0, cc)
 
   pub read_on : (ls : List Line) (e : Entry) → Ok (Some e) ≡ entry_answer sh last ls → ReadOn sh last ls e
   read_on [] e told = absurd (cc)
@@ -49,7 +49,7 @@ module _ (sh : Shape) (last : Option Last) where
   read_out [] told = refl
   read_out (l ∷ ls) told = never (row_fault sh last l) told
     where
-      never : (o : Option RowFault) → Ok None ≡ none_or o (entry_of (fields l)) → (l ∷ ls) ≡ []
+      never : (o : Option RowFault) → Ok None ≡ unless_no o (Some (entry_of (fields l))) → (l ∷ ls) ≡ []
       never None told = absurd (cc)
       never (Some f) told = absurd (cc)
 

@@ -92,16 +92,20 @@ number_questions sh (letter ∷ fs) = field_questions 2 (columns sh (group (lett
 abbrev pub cut_questions : Line → List (Bool × RowFault)
 cut_questions l = (l.ended, Unended) ∷ (is_some (group (fields l)), UnknownLetter) ∷ ((length (fields l) == width (group (fields l))), FieldCount) ∷ []
 
--- one field read: a number that is in range, else the field's fault
+-- one field's fault: no number, or one that is out of range
+abbrev pub field_fault : (ℤ → Bool) → ℕ → List ℕ → Option FieldFault
+field_fault ok n text = first_no ((is_number text, Malformed n) ∷ (ok (number_in text), OutOfRange n) ∷ [])
+
+-- one field read: its number, else the field's fault
 abbrev pub field_answer : (ℤ → Bool) → ℕ → List ℕ → Result ℤ FieldFault
-field_answer ok n text = unless_no (first_no ((is_number text, Malformed n) ∷ (ok (number_in text), OutOfRange n) ∷ [])) (number_in text)
+field_answer ok n text = unless_no (field_fault ok n text) (number_in text)
 
 abbrev pub natural : ℤ → ℕ
 natural (pos n) = n
 natural (negsuc n) = 0
 
 abbrev pub natural_answer : (ℤ → Bool) → ℕ → List ℕ → Result ℕ FieldFault
-natural_answer ok n text = unless_no (first_no ((is_number text, Malformed n) ∷ (ok (number_in text), OutOfRange n) ∷ [])) (natural (number_in text))
+natural_answer ok n text = unless_no (field_fault ok n text) (natural (number_in text))
 
 -- the number in the field at index i, from 0
 abbrev pub number_at : List (List ℕ) → ℕ → ℤ

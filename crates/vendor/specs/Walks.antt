@@ -10,7 +10,7 @@ use Rattle.vendor.specs.Files.{lines}
 use Rattle.vendor.specs.declared.rows.Shape.{Shape}
 use Rattle.vendor.specs.declared.rows.Last.{Last}
 use Rattle.vendor.specs.declared.rows.Entry.{Entry}
-use Rattle.vendor.specs.Rows.{Line, row_fault, entry_of, place_of, group, width, fields, fields_of, first_no, cut_questions}
+use Rattle.vendor.specs.Rows.{Line, row_fault, entry_of, place_of, group, width, fields, fields_of, first_no, unless_no, cut_questions}
 
 -- the fields of a row that ends at `end`, from `at` on: none past its end
 unfoldable pub fields_left : List ℕ → ℕ → ℕ → List (List ℕ)
@@ -55,14 +55,10 @@ HandedOn [] r = r ≡ Ok None
 HandedOn (l ∷ ls) (Ok row) = RowHandedOn l row
 HandedOn (l ∷ ls) (Err e) = first_no (cut_questions l) ≡ Some e
 
-abbrev pub none_or : {A F : Type 0} → Option F → A → Result (Option A) F
-none_or None x = Ok (Some x)
-none_or (Some e) x = Err e
-
 -- the next row read: its numbers, or its fault
 abbrev pub entry_answer : Shape → Option Last → List Line → Result (Option Entry) RowFault
 entry_answer sh last [] = Ok None
-entry_answer sh last (l ∷ ls) = none_or (row_fault sh last l) (entry_of (fields l))
+entry_answer sh last (l ∷ ls) = unless_no (row_fault sh last l) (Some (entry_of (fields l)))
 
 -- the last row read: it moves on only to a row without fault
 abbrev pub last_after : Option Last → Result (Option Entry) RowFault → Option Last

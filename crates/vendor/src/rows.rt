@@ -41,6 +41,7 @@ pub enum Row<'a> {
 }
 
 // The same with its numbers read; a row, a line and a period lie in the shape that it was read for.
+// An enum of its own, since one over any fields would take four type parameters for them and is no plainer.
 #[derive(Clone, Copy, PartialEq, Eq, Debug)]
 pub enum Entry {
     Output {

@@ -10,7 +10,7 @@ use crate::rows::{Entry, Shape};
 pub use cells::Cells;
 pub use reading::read;
 
-// Cells lie item by item and then by period: rows by periods for marks, outputs, rise and fall prices,
+// A struct of seven slices by a rule of the project. Cells lie item by item and then by period: rows by periods for marks, outputs, rise and fall prices,
 // lines by periods for upper and lower prices, and one system price for each period.
 #[derive(Drop)]
 pub struct Tables<'a> {

@@ -18,6 +18,7 @@ impl Last {
 
 impl Reader<'_> {
     // Whether the row may come next: letters in the order R, S, L, G, and rising within a letter.
+    // The state is matched in place with the row, and no order of letters is derived: a rule of the project.
     fn may_follow(&self, entry: &Entry) -> bool
         ensures { result ≡ follows self.now.last (place_of entry.now) }
     {
