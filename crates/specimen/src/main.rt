@@ -32,15 +32,14 @@ fn main(rt: HostRuntime) -> io::Result<()> {
     let mut file = Vec::new(rt.alloc());
     rt.stdin().take(READ_BYTES).read_to_end(&mut file)?;
     match judge(file.as_slice()) {
-        Ok(counts) => {
-            let Counts {
+        Ok(
+            Counts {
                 outputs,
                 system,
                 lines,
                 ramps,
-            } = counts;
-            println!(rt; "R;{outputs}\nS;{system}\nL;{lines}\nG;{ramps}")
-        }
+            },
+        ) => println!(rt; "R;{outputs}\nS;{system}\nL;{lines}\nG;{ramps}"),
         Err(fault) => println!(rt; "file;{fault}"),
     }
 }

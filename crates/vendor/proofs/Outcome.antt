@@ -70,14 +70,17 @@ module _ (sh : Shape) (file : List ℕ) (c : Contents) where
   means r told after held = subst (λ x. Answered sh file c x after) (sym told) (subst (Answered sh file c (answer sh file c)) (sym held) (means_by (sized sh c) refl))
 
   -- the judgement where the tables do not fit, and where they do
-  pub judged_unsized : sized sh c ≡ false → (Err Whole ≡ answer sh file c) × (c ≡ tables_after sh file c)
-  judged_unsized fit = (sym (ap (λ o. unless_no o (counts sh file c)) (fault_unsized sh file c fit)), unsized_after sh file c fit)
+  pub unfit_answer : sized sh c ≡ false → Err Whole ≡ answer sh file c
+  unfit_answer fit = sym (ap (λ o. unless_no o (counts sh file c)) (fault_unsized sh file c fit))
 
-  pub judged_sized : (r : Result Counts FileFault) → sized sh c ≡ true → r ≡ rows_answer sh file → (r ≡ answer sh file c) × MatchResult r (λ _. Readable sh file c) (λ _. c ≡ tables_after sh file c)
-  judged_sized r fit told = (
-    told ∙ ap (λ o. unless_no o (counts sh file c)) (sym (fault_sized sh file c fit)),
-    subst (λ x. MatchResult x (λ _. Readable sh file c) (λ _. c ≡ tables_after sh file c)) (sym told) (sized_after sh file c (fault_of sh file) fit refl),
-  )
+  pub unfit_after : sized sh c ≡ false → c ≡ tables_after sh file c
+  unfit_after fit = unsized_after sh file c fit
+
+  pub fit_answer : (r : Result Counts FileFault) → sized sh c ≡ true → r ≡ rows_answer sh file → r ≡ answer sh file c
+  fit_answer r fit told = told ∙ ap (λ o. unless_no o (counts sh file c)) (sym (fault_sized sh file c fit))
+
+  pub fit_cases : (r : Result Counts FileFault) → sized sh c ≡ true → r ≡ rows_answer sh file → MatchResult r (λ _. Readable sh file c) (λ _. c ≡ tables_after sh file c)
+  fit_cases r fit told = subst (λ x. MatchResult x (λ _. Readable sh file c) (λ _. c ≡ tables_after sh file c)) (sym told) (sized_after sh file c (fault_of sh file) fit refl)
 
 pub words_mean : WordsMean
 words_mean = record { pieces = pieces_between; numbers = numbers_decimal; rows = rows_ended }

@@ -67,7 +67,7 @@ number_answer sh last (l ∷ ls) row f handed told =
     let no_f = by_err (first_no (number_questions sh (fields_of row))) (entry_of (fields_of row)) f told in
     sym (ap (λ o. unless_no o (Some (entry_of (fields l)))) (number_fault sh last l f handed.sound (ap (λ fs. first_no (number_questions sh fs)) (sym handed.parts) ∙ no_f)))
 
-pub place_answer : (sh : Shape) (last : Option Last) (ls : List Line) (row : Row) (e : Entry) (yes_no : Bool) → HandedOn ls (Ok (Some row)) → Ok e ≡ numbers_answer sh (fields_of row) → yes_no ≡ follows last (place_of e)
+place_answer : (sh : Shape) (last : Option Last) (ls : List Line) (row : Row) (e : Entry) (yes_no : Bool) → HandedOn ls (Ok (Some row)) → Ok e ≡ numbers_answer sh (fields_of row) → yes_no ≡ follows last (place_of e)
     → cond yes_no (Ok (Some e)) (Err OutOfOrder) ≡ entry_answer sh last ls
 place_answer sh last [] row e b handed told placed = absurd (cc)
 place_answer sh last (l ∷ ls) row e b handed told placed =
@@ -79,3 +79,10 @@ place_answer sh last (l ∷ ls) row e b handed told placed =
     either : (t : Bool) (x y : Entry) → x ≡ y → cond t (Ok (Some x)) (Err OutOfOrder) ≡ unless_no (cond t None (Some OutOfOrder)) (Some y)
     either true x y same = ap (λ z. Ok (Some z)) same
     either false x y same = refl
+
+-- a row that may come next is handed on, and one that may not is out of order
+pub next_answer : (sh : Shape) (last : Option Last) (ls : List Line) (row : Row) (e : Entry) → HandedOn ls (Ok (Some row)) → Ok e ≡ numbers_answer sh (fields_of row) → true ≡ follows last (place_of e) → Ok (Some e) ≡ entry_answer sh last ls
+next_answer sh last ls row e handed told placed = place_answer sh last ls row e true handed told placed
+
+pub order_answer : (sh : Shape) (last : Option Last) (ls : List Line) (row : Row) (e : Entry) → HandedOn ls (Ok (Some row)) → Ok e ≡ numbers_answer sh (fields_of row) → false ≡ follows last (place_of e) → Err OutOfOrder ≡ entry_answer sh last ls
+order_answer sh last ls row e handed told placed = place_answer sh last ls row e false handed told placed

@@ -2,7 +2,7 @@
 ghost use Rattle.std.specs.Prelude.{◌≡◌, ◌<◌, ◌≤◌, length, cond, Some, None, IfSome};
 ghost use Rattle.std.specs.Str.{all_ascii_digits};
 ghost use Rattle.std.specs.Str.Parse.{digits_value};
-ghost use Rattle.vendor.specs.Numbers.{number, magnitude_of};
+ghost use Rattle.vendor.specs.Numbers.{number, magnitude_of, below_zero};
 
 const MOST_DIGITS: usize = 8;
 
@@ -34,15 +34,21 @@ fn magnitude(digits: &[u8]) -> Option<u32>
     }
 }
 
-// The number that a field writes, or `None` where it writes none. Zero is written without a minus.
+// A number behind a minus: zero is not written so.
+fn negated(value: u32) -> Option<i32>
+    requires { value < 100000000 }
+    ensures { result ≡ below_zero (Some value) }
+{
+    (value != 0).then(|| -(value as i32))
+}
+
+// The number that a field writes, or `None` where it writes none.
 #[tactic(auto, unfolding(crate::specs::Numbers::number))]
 pub fn parse(text: &[u8]) -> Option<i32>
     ensures { result ≡ number text.now }
 {
     match text {
-        [b'-', digits @ ..] => magnitude(digits)
-            .filter(|value| *value != 0)
-            .map(|value| -(value as i32)),
+        [b'-', digits @ ..] => magnitude(digits).and_then(negated),
         _ => magnitude(text).map(|value| value as i32),
     }
 }

@@ -79,6 +79,7 @@ mod tests {
     }
 
     // One row of a fleet of one, into tables of two cells and no line: the answer, and the row's mark and output afterwards.
+    // The tables are lent one by one, since `fall` has a wrong length in some cases.
     fn one_row(lines: usize, size: usize, fall: &mut [i32]) -> (Answer, u8, i32) {
         let mut marks = [9u8; 2];
         let mut outputs = [9i32; 2];

@@ -38,6 +38,7 @@ impl Reader<'_> {
     }
 
     // The next row's numbers, judged beside the last row.
+    #[tactic(auto, using(crate::proofs::Questions::cut_answer, crate::proofs::Questions::number_answer, crate::proofs::Questions::next_answer))]
     fn judged(&mut self, shape: &Shape) -> Result<Option<Entry>, RowFault>
         ensures answer { result ≡ entry_answer shape.now self.old.last (rows_ahead self.old) }
         ensures rows { rows_ahead self.new ≡ tail (rows_ahead self.old) }

@@ -24,6 +24,7 @@ pub fn find(bytes: &[u8], byte: u8) -> usize
 
 impl<'a> Reader<'a> {
     // The next field of the row that ends at `end`, or `None` past its last.
+    #[tactic(auto, using(crate::proofs::Cuts::none_left, crate::proofs::Cuts::next_left))]
     fn next_field(&mut self, end: usize) -> Option<&'a [u8]>
         requires { InRow self.old end }
         ensures kept { Kept self.old self.new }

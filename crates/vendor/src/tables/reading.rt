@@ -40,6 +40,7 @@ fn fill(file: &[u8], shape: &Shape, tables: &mut Tables)
 }
 
 // Whether the file can be read into the tables: its rows by letter, or its fault. Nothing is written.
+#[tactic(auto, using(crate::proofs::Outcome::unfit_answer, crate::proofs::Outcome::unfit_after, crate::proofs::Outcome::fit_answer, crate::proofs::Outcome::means, crate::proofs::Outcome::words_mean))]
 fn judge(file: &[u8], shape: &Shape, tables: &Tables) -> Result<Counts, FileFault>
     ensures meaning { (after : Contents) → after ≡ tables_after shape.now file.now (contents tables.now) → Answered shape.now file.now (contents tables.now) result after }
     ensures words { WordsMean }
