@@ -2,7 +2,8 @@
 use Rattle.std.proofs.Common.{◌≡◌, ℕ, zero, suc, ◌+◌, ◌-◌, ◌<◌, ◌≤◌, eqb, leb, List, [], ◌∷◌, length, get_or, take, drop, sym, refl, ap, ◌∙◌, ⊎_elim, arith, length-drop, length-take-le, take_all}
 use Rattle.std.proofs.lemmas.List.{drop-take, drop-drop}
 use Rattle.std.proofs.lemmas.Bool.{eq-eqb, ne_eqb, le-leb, lt-leb, cond-true, cond-false, cases_lt}
-use Rattle.vendor.specs.Pieces.{pieces, onto}
+use Rattle.std.specs.List.{onto_first}
+use Rattle.vendor.specs.Pieces.{pieces}
 use Rattle.vendor.specs.Walks.{fields_left}
 
 -- no separator before n, and one at n
@@ -12,14 +13,14 @@ cut_here sep [] n within before at = absurd (omega arith)
 cut_here sep (b ∷ bs) zero within before at = cond-true (eqb b sep) _ _ (eq-eqb b sep at)
 cut_here sep (b ∷ bs) (suc n) within before at =
     cond-false (eqb b sep) _ _ (ne_eqb b sep (before 0 (omega arith)))
-    ∙ ap (onto b) (cut_here sep bs n (omega arith) (λ k h. before (suc k) (omega arith)) at)
+    ∙ ap (onto_first b) (cut_here sep bs n (omega arith) (λ k h. before (suc k) (omega arith)) at)
 
 -- no separator at all
 pub cut_last : (sep : ℕ) (bs : List ℕ) → ((k : ℕ) → k < length bs → get_or bs k 0 ≡ sep → ⊥) → pieces sep bs ≡ bs ∷ []
 unfolding pieces
 cut_last sep [] none = refl
 cut_last sep (b ∷ bs) none =
-    cond-false (eqb b sep) _ _ (ne_eqb b sep (none 0 (omega arith))) ∙ ap (onto b) (cut_last sep bs (λ k h. none (suc k) (omega arith)))
+    cond-false (eqb b sep) _ _ (ne_eqb b sep (none 0 (omega arith))) ∙ ap (onto_first b) (cut_last sep bs (λ k h. none (suc k) (omega arith)))
 
 module _ (file : List ℕ) (at end : ℕ) where
   pub none_left : end < at → fields_left file at end ≡ []

@@ -2,7 +2,7 @@
 use Rattle.std.proofs.Common.{◌≡◌, ℕ, zero, suc, ◌<◌, ◌≤◌, eqb, List, [], ◌∷◌, ◌++◌, length, get_or, ℤ, pos, negsuc, neg_ℤ, ◌≤ℤ◌, Some, None, decimal, Option, sym, refl, ap, ◌∙◌, subst, append-nil, arith}
 use Rattle.std.specs.Str.Parse.{digits_value}
 use Rattle.std.specs.Fmt.{signed_decimal}
-use Rattle.std.specs.List.{AllByRecursion}
+use Rattle.std.specs.List.{AllByRecursion, join_with_byte, onto_first}
 use Rattle.std.proofs.lemmas.Fmt.{decimal-digits_value, digits_decimal, digits_value-decimal, length-decimal-le, decimal_nonempty, first_decimal}
 use Rattle.std.proofs.ByRecursion.{every_from_all}
 use Rattle.std.proofs.lemmas.Int.{ints}
@@ -10,7 +10,7 @@ use Rattle.std.proofs.lemmas.Bool.{eqb-true, eqb-false, eq-eqb, ne_eqb, cond-tru
 use Rattle.vendor.specs.Files.{lines, lines_of}
 use Rattle.vendor.specs.Format.{WrittenAs, NumbersAreDecimals, unsplit, RowsProper, RowsAreWhatByte10Ends}
 use Rattle.vendor.specs.Numbers.{plain, number, magnitude_of, at_least_zero, below_zero}
-use Rattle.vendor.specs.Pieces.{pieces, onto, joined_by, Lacks, CutAt, PiecesAreWhatStandsBetween}
+use Rattle.vendor.specs.Pieces.{pieces, Lacks, CutAt, PiecesAreWhatStandsBetween}
 use Rattle.vendor.proofs.Cuts.{cut_last}
 use Rattle.vendor.proofs.Decimals.{by_test, DigitsBelow, digits_told, digits_each, Short, is_plain, plain_parts, plain_value, number_unsigned, number_minus}
 
@@ -20,7 +20,7 @@ starts sep b bs [] is c = absurd (omega (arith, c.some))
 starts sep b bs (p ∷ ps) is c = record { some = omega arith; whole = λ j. sym is j ∷ c.whole j; clean = (tt, c.clean) }
 
 -- any other byte before it: the first piece longer by it
-goes_on : (sep b : ℕ) (bs : List ℕ) (ps : List (List ℕ)) → (b ≡ sep → ⊥) → CutAt sep bs ps → CutAt sep (b ∷ bs) (onto b ps)
+goes_on : (sep b : ℕ) (bs : List ℕ) (ps : List (List ℕ)) → (b ≡ sep → ⊥) → CutAt sep bs ps → CutAt sep (b ∷ bs) (onto_first b ps)
 goes_on sep b bs [] ne c = absurd (omega (arith, c.some))
 goes_on sep b bs (p ∷ []) ne c = record { some = omega arith; whole = ap (λ r. b ∷ r) c.whole; clean = ((ne, c.clean.0), c.clean.1) }
 goes_on sep b bs (p ∷ q ∷ ps) ne c = record { some = omega arith; whole = ap (λ r. b ∷ r) c.whole; clean = ((ne, c.clean.0), c.clean.1) }
@@ -38,13 +38,13 @@ cut sep (b ∷ bs) =
 front : (sep : ℕ) (p rest : List ℕ) → Lacks sep p → pieces sep (p ++ (sep ∷ rest)) ≡ p ∷ pieces sep rest
 unfolding pieces
 front sep [] rest c = cond-true (eqb sep sep) _ _ (eq-eqb sep sep refl)
-front sep (b ∷ p) rest c = cond-false (eqb b sep) _ _ (ne_eqb b sep c.0) ∙ ap (onto b) (front sep p rest c.1)
+front sep (b ∷ p) rest c = cond-false (eqb b sep) _ _ (ne_eqb b sep c.0) ∙ ap (onto_first b) (front sep p rest c.1)
 
 -- pieces put together are cut into the same pieces again
-again : (sep : ℕ) (ps : List (List ℕ)) → 0 < length ps → AllByRecursion (Lacks sep) ps → ps ≡ pieces sep (joined_by sep ps)
+again : (sep : ℕ) (ps : List (List ℕ)) → 0 < length ps → AllByRecursion (Lacks sep) ps → ps ≡ pieces sep (join_with_byte sep ps)
 again sep [] some c = absurd (omega arith)
 again sep (p ∷ []) some c = sym (cut_last sep p (λ k h. every_from_all _ p c.0 k 0 (omega arith) h))
-again sep (p ∷ q ∷ ps) some c = ap (λ r. p ∷ r) (again sep (q ∷ ps) (omega arith) c.1) ∙ sym (front sep p (joined_by sep (q ∷ ps)) c.0)
+again sep (p ∷ q ∷ ps) some c = ap (λ r. p ∷ r) (again sep (q ∷ ps) (omega arith) c.1) ∙ sym (front sep p (join_with_byte sep (q ∷ ps)) c.0)
 
 -- every text is cut in one way only, and `pieces` gives it
 pub pieces_between : PiecesAreWhatStandsBetween
@@ -114,7 +114,7 @@ pub numbers_decimal : NumbersAreDecimals
 numbers_decimal bs z = (written bs z, λ w. ap number w.text ∙ read z w.small)
 
 -- rows put together with their ends are the pieces joined by byte 10
-together : (ps : List (List ℕ)) → unsplit (lines_of ps) ≡ joined_by 10 ps
+together : (ps : List (List ℕ)) → unsplit (lines_of ps) ≡ join_with_byte 10 ps
 together [] = refl
 together ([] ∷ []) = refl
 together ((b ∷ bs) ∷ []) = append-nil (b ∷ bs)

@@ -1,5 +1,6 @@
 -- What one row more does to the count of rows, and to the tables. Assumes nothing.
 use Rattle.std.proofs.Common.{◌≡◌, ℕ, suc, ◌+◌, ◌<◌, ◌≤◌, true, false, cond, eqb, List, [], ◌∷◌, length, Some, None, Ok, Option, refl, ap, ◌∙◌, arith}
+use Rattle.std.specs.List.{onto_first}
 use Rattle.vendor.specs.declared.faults.RowFault.{RowFault}
 use Rattle.vendor.specs.declared.rows.Shape.{Shape}
 use Rattle.vendor.specs.declared.rows.Last.{Last}
@@ -7,14 +8,14 @@ use Rattle.vendor.specs.declared.rows.Entry.{Entry}
 use Rattle.vendor.specs.declared.tables.Counts.{Counts}
 use Rattle.vendor.specs.Files as Files
 use Rattle.vendor.specs.Files.{lines, rows_answer, none_counted, lines_of, rows_answer_from}
-use Rattle.vendor.specs.Pieces.{pieces, onto}
+use Rattle.vendor.specs.Pieces.{pieces}
 use Rattle.vendor.specs.Rows.{Line, fields, unless_no, entry_of, row_fault}
 use Rattle.vendor.specs.Walks.{entry_answer, tail}
 use Rattle.vendor.proofs.Questions.{by_ok}
 use Rattle.vendor.proofs.Walking.{pieces_some, lines_cons}
 
 -- a file has no more rows than bytes
-short_of : (ps : List (List ℕ)) (b : ℕ) → length (lines_of (onto b ps)) ≤ suc (length (lines_of ps))
+short_of : (ps : List (List ℕ)) (b : ℕ) → length (lines_of (onto_first b ps)) ≤ suc (length (lines_of ps))
 short_of [] b = omega arith
 short_of ([] ∷ []) b = omega arith
 short_of ((c ∷ cs) ∷ []) b = omega arith
@@ -27,8 +28,8 @@ lines_short (b ∷ bs) =
     let more = lines_short bs in
     let s = pieces_some 10 bs in
     let cut : length (lines_of ([] ∷ pieces 10 bs)) ≤ suc (length bs) = let e = ap length (lines_cons [] (pieces 10 bs) s.0 s.1 s.2) in omega arith in
-    let on : length (lines_of (onto b (pieces 10 bs))) ≤ suc (length bs) = let e = short_of (pieces 10 bs) b in omega arith in
-    elim (eqb b 10) as (λ t. length (lines_of (cond t ([] ∷ pieces 10 bs) (onto b (pieces 10 bs)))) ≤ suc (length bs)) [ true ↦ cut | false ↦ on ]
+    let on : length (lines_of (onto_first b (pieces 10 bs))) ≤ suc (length bs) = let e = short_of (pieces 10 bs) b in omega arith in
+    elim (eqb b 10) as (λ t. length (lines_of (cond t ([] ∷ pieces 10 bs) (onto_first b (pieces 10 bs)))) ≤ suc (length bs)) [ true ↦ cut | false ↦ on ]
 
 -- what an answer says of the rows ahead
 pub record ReadOn (sh : Shape) (last : Option Last) (ls : List Line) (e : Entry) : Type 0 where

@@ -6,15 +6,15 @@ use Rattle.vendor.specs.declared.rows.Row.TheVariants as row
 use Rattle.vendor.specs.declared.faults.RowFault.{RowFault}
 use Rattle.vendor.specs.declared.faults.RowFault.TheVariants.{Unended}
 use Rattle.vendor.specs.Files.{lines, lines_of}
-use Rattle.std.specs.List.{AllByRecursion}
-use Rattle.vendor.specs.Pieces.{pieces, onto, joined_by, Lacks}
+use Rattle.std.specs.List.{AllByRecursion, join_with_byte, onto_first}
+use Rattle.vendor.specs.Pieces.{pieces, Lacks}
 use Rattle.vendor.specs.Rows.{Line, fields, fields_of, first_no}
 use Rattle.vendor.specs.Walks.{fields_left, letter_questions, HandedOn, tail}
 use Rattle.vendor.proofs.Cuts.{cut_here, cut_last, some_left}
 use Rattle.vendor.proofs.Formats.{pieces_between}
 
 -- there is always a first piece
-onto_some : (b : ℕ) (ps : List (List ℕ)) → (q : List ℕ) × (qs : List (List ℕ)) × (onto b ps ≡ q ∷ qs)
+onto_some : (b : ℕ) (ps : List (List ℕ)) → (q : List ℕ) × (qs : List (List ℕ)) × (onto_first b ps ≡ q ∷ qs)
 onto_some b [] = (b ∷ [], [], refl)
 onto_some b (p ∷ ps) = (b ∷ p, ps, refl)
 
@@ -22,7 +22,7 @@ pub pieces_some : (sep : ℕ) (bs : List ℕ) → (q : List ℕ) × (qs : List (
 unfolding pieces
 pieces_some sep [] = ([], [], refl)
 pieces_some sep (b ∷ bs) =
-    elim (eqb b sep) as (λ t. (q : List ℕ) × (qs : List (List ℕ)) × (cond t ([] ∷ pieces sep bs) (onto b (pieces sep bs)) ≡ q ∷ qs))
+    elim (eqb b sep) as (λ t. (q : List ℕ) × (qs : List (List ℕ)) × (cond t ([] ∷ pieces sep bs) (onto_first b (pieces sep bs)) ≡ q ∷ qs))
     [ true ↦ ([], pieces sep bs, refl) | false ↦ onto_some b (pieces sep bs) ]
 
 pub lines_cons : (p : List ℕ) (ps : List (List ℕ)) (q : List ℕ) (qs : List (List ℕ)) → ps ≡ q ∷ qs → lines_of (p ∷ ps) ≡ record { bytes = p; ended = true } ∷ lines_of ps
@@ -108,7 +108,7 @@ module _ (file : List ℕ) (at n : ℕ) (look : Looked file at n) where
       subst (λ ls. HandedOn ls (Ok (Some r))) (sym (row_here file at n look inside)) (record {
         sound = ap (λ fs. first_no (letter_questions fs)) (sym same) ∙ kind_known r;
         parts = same;
-        whole = ap (joined_by 59) same ∙ cut.whole;
+        whole = ap (join_with_byte 59) same ∙ cut.whole;
         clean = subst (AllByRecursion (Lacks 59)) (sym same) cut.clean;
       })
 

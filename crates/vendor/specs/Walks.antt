@@ -3,8 +3,8 @@ use Rattle.std.specs.Prelude.{◌≡◌, ℕ, ◌+◌, ◌-◌, ◌<◌, ◌≤�
 use Rattle.vendor.specs.declared.faults.RowFault.{RowFault}
 use Rattle.vendor.specs.declared.faults.RowFault.TheVariants.{UnknownLetter, FieldCount}
 use Rattle.vendor.specs.declared.reader.Reader.{Reader}
-use Rattle.std.specs.List.{AllByRecursion}
-use Rattle.vendor.specs.Pieces.{pieces, joined_by, Lacks}
+use Rattle.std.specs.List.{AllByRecursion, join_with_byte}
+use Rattle.vendor.specs.Pieces.{pieces, Lacks}
 use Rattle.vendor.specs.declared.rows.Row.{Row}
 use Rattle.vendor.specs.Files.{lines}
 use Rattle.vendor.specs.declared.rows.Shape.{Shape}
@@ -43,7 +43,7 @@ tail (x ∷ xs) = xs
 pub record RowOf (l : Line) (row : Row) : Type 0 where
   pub sound : first_no (cut_questions l) ≡ None
   pub parts : fields_of row ≡ fields l
-  pub whole : joined_by 59 (fields_of row) ≡ l.bytes
+  pub whole : join_with_byte 59 (fields_of row) ≡ l.bytes
   pub clean : AllByRecursion (Lacks 59) (fields_of row)
 
 abbrev pub RowHandedOn : Line → Option Row → Type 0
