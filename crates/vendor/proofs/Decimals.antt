@@ -1,14 +1,15 @@
 -- Digits read from the left, and when they are plain. Assumes nothing.
-use Rattle.std.proofs.Common.{◌≡◌, ℕ, ◌+◌, ◌-◌, ◌*◌, ◌<◌, ◌≤◌, true, false, not, ◌||◌, eqb, leb, List, length, get_or, take, drop, sym, ap, ◌∙◌, ⊎_elim, arith, length-take-le, get_or-take}
+use Rattle.std.proofs.Common.{◌≡◌, ℕ, ◌+◌, ◌-◌, ◌*◌, ◌<◌, ◌≤◌, true, false, not, ◌||◌, eqb, leb, List, length, get_or, take, drop, pos, sym, ap, ◌∙◌, ⊎_elim, arith, length-take-le, get_or-take}
 use Rattle.std.specs.Str.Parse.{digits_value}
 use Rattle.std.specs.Int.{IsInRange}
 use Rattle.std.specs.Char.{is_ascii_digit, digit_value as digitValue}
 use Rattle.std.specs.Str.{all_ascii_digits}
+use Rattle.std.specs.Option.{option_map}
 use Rattle.std.proofs.lemmas.Int.Digits.{digits_value_more}
 use Rattle.std.proofs.lemmas.Str.Parse.{IsNumeralModel, numerals_by_value, tells_all_ascii_digits, tells_by_index, digits_value_short}
 use Rattle.std.proofs.lemmas.Bool.{leb-true, eqb-true, eq-eqb, ne_eqb, le-leb, and_parts, and_from, or_left, or_right, or_cases, not_from_false, not-true, cases_eq, cases_Bool, both_ways, cond-true, cond-false}
 use Rattle.std.proofs.lemmas.Bool.Decides.{nat_tests}
-use Rattle.vendor.specs.Numbers.{plain, number, magnitude_of, at_least_zero, below_zero}
+use Rattle.vendor.specs.Numbers.{plain, number, magnitude_of, below_zero}
 
 -- each of the first n bytes is a digit
 abbrev pub DigitsBelow : List ℕ → ℕ → Type 0
@@ -94,7 +95,7 @@ pub plain_value : (ds : List ℕ) → Plain ds → digits_value 10 ds < 10000000
 plain_value ds p = eight ds p.each p.short.few
 
 -- a text with no minus in front, and one with it
-pub number_unsigned : (text : List ℕ) → (get_or text 0 0 ≡ 45 → ⊥) → number text ≡ at_least_zero (magnitude_of text)
+pub number_unsigned : (text : List ℕ) → (get_or text 0 0 ≡ 45 → ⊥) → number text ≡ option_map pos (magnitude_of text)
 unfolding number
 number_unsigned text ne = cond-false (eqb (get_or text 0 0) 45) _ _ (ne_eqb (get_or text 0 0) 45 ne)
 
