@@ -3,7 +3,7 @@
 
 use std::alloc::{AllocError, Global};
 use std::time::Instant;
-use vendor::{Counts, FileFault, Shape, Tables, read};
+use vendor::{Cells, Counts, FileFault, Shape};
 
 const PERIODS: usize = 96;
 
@@ -11,9 +11,8 @@ const LINES: usize = 16;
 
 const SIZE: usize = 32;
 
-const ROW_CELLS: usize = 3072;
-
-const LINE_CELLS: usize = 1536;
+// A cell for each row and period, for each line and period, and for each period.
+type DayCells = Cells<3072, 1536, PERIODS>;
 
 const READINGS: u32 = 200;
 
@@ -41,30 +40,13 @@ fn full_file(heap: Global) -> Result<String, AllocError> {
 }
 
 fn read_once(file: &[u8]) -> Result<Counts, FileFault> {
-    let mut marks = [0u8; ROW_CELLS];
-    let mut outputs = [0i32; ROW_CELLS];
-    let mut system = [0i32; PERIODS];
-    let mut upper = [0i32; LINE_CELLS];
-    let mut lower = [0i32; LINE_CELLS];
-    let mut rise = [0i32; ROW_CELLS];
-    let mut fall = [0i32; ROW_CELLS];
-    let mut tables = Tables {
-        marks: &mut marks,
-        outputs: &mut outputs,
-        system: &mut system,
-        upper: &mut upper,
-        lower: &mut lower,
-        rise: &mut rise,
-        fall: &mut fall,
-    };
-    read(
+    DayCells::empty().read(
         file,
         &Shape {
             periods: PERIODS,
             lines: LINES,
             size: SIZE,
         },
-        &mut tables,
     )
 }
 

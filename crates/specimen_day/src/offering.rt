@@ -2,8 +2,8 @@
 ghost use Rattle.market.specs.Bounding as Bounding;
 ghost use Rattle.market.specs.Judging as Judging;
 ghost use Rattle.std.specs.Prelude.{◌≡◌};
-ghost use Rattle.vendor.specs.Files.{contents};
-ghost use Rattle.specimen_day.specs.Specimen.{day, fleet, plan, prices, empty, Answered, Tells, StarsFollow};
+ghost use Rattle.vendor.specs.Cells.{owned};
+ghost use Rattle.specimen_day.specs.Specimen.{day, fleet, plan, prices, Answered, Tells, StarsFollow};
 
 use crate::answers::Answers;
 use crate::rows::{
@@ -12,16 +12,15 @@ use crate::rows::{
 use fleets::{Joined, Renewables};
 use market::{Day, DayNumbers, Plan, PriceSet, bound, judge};
 use thermal::Thermal;
-use vendor::{FileFault, Shape, Tables, read};
+use vendor::{Cells, FileFault, Shape};
 
 const MOST_BYTES: usize = 65_536;
 
-// Two units and a station; a cell for each row and period, and for each line and period.
+// Two units and a station.
 const SIZE: usize = 3;
 
-const ROW_CELLS: usize = 6;
-
-const LINE_CELLS: usize = 2;
+// A cell for each row and period, for each line and period, and for each period.
+type DayCells = Cells<6, 2, PERIODS>;
 
 // The plan judged, and the prices bounded.
 fn offered(plan: &Plan, prices: &PriceSet) -> Answers
@@ -55,65 +54,39 @@ fn offered(plan: &Plan, prices: &PriceSet) -> Answers
     }
 }
 
-// What the tables hold, offered.
-fn held(tables: &Tables) -> Answers
-    ensures plan { Judging.Told day fleet (plan (contents tables.now)) result.plan }
-    ensures prices { Bounding.Told day fleet (prices (contents tables.now)) result.prices }
+// What the cells hold, offered.
+fn held(cells: &DayCells) -> Answers
+    ensures plan { Judging.Told day fleet (plan (owned cells.now)) result.plan }
+    ensures prices { Bounding.Told day fleet (prices (owned cells.now)) result.prices }
 {
     let plan = Plan {
-        marks: &*tables.marks,
-        outputs: &*tables.outputs,
+        marks: &cells.marks,
+        outputs: &cells.outputs,
     };
     let prices = PriceSet {
-        system: &*tables.system,
-        upper: &*tables.upper,
-        lower: &*tables.lower,
-        rise: &*tables.rise,
-        fall: &*tables.fall,
+        system: &cells.system,
+        upper: &cells.upper,
+        lower: &cells.lower,
+        rise: &cells.rise,
+        fall: &cells.fall,
     };
     offered(&plan, &prices)
 }
 
-// A file read into empty tables, and what they then hold offered.
-fn taken(file: &[u8], tables: &mut Tables) -> Result<Answers, FileFault>
-    requires { contents tables.old ≡ empty }
+// A file of at most 65,536 bytes, read into empty cells.
+fn short(file: &[u8]) -> Result<Answers, FileFault>
     ensures { Answered file.now result }
 {
-    match read(
+    let mut cells = DayCells::empty();
+    cells.read(
         file,
         &Shape {
             periods: PERIODS,
             lines: LINES,
             size: SIZE,
         },
-        tables,
-    ) {
-        Ok(_) => Ok(held(tables)),
-        Err(fault) => Err(fault),
-    }
-}
-
-// A file of at most 65,536 bytes.
-fn short(file: &[u8]) -> Result<Answers, FileFault>
-    ensures { Answered file.now result }
-{
-    let mut marks = [0u8; ROW_CELLS];
-    let mut outputs = [0i32; ROW_CELLS];
-    let mut system = [0i32; PERIODS];
-    let mut upper = [0i32; LINE_CELLS];
-    let mut lower = [0i32; LINE_CELLS];
-    let mut rise = [0i32; ROW_CELLS];
-    let mut fall = [0i32; ROW_CELLS];
-    let mut tables = Tables {
-        marks: &mut marks,
-        outputs: &mut outputs,
-        system: &mut system,
-        upper: &mut upper,
-        lower: &mut lower,
-        rise: &mut rise,
-        fall: &mut fall,
-    };
-    taken(file, &mut tables)
+    )?;
+    Ok(held(&cells))
 }
 
 // How a vendor's file is answered: its fault, or its plan judged and its prices bounded.

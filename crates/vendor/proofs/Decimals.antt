@@ -1,14 +1,15 @@
 -- Digits read from the left, and when they are plain. Assumes nothing.
-use Rattle.std.proofs.Common.{◌≡◌, ℕ, ◌+◌, ◌-◌, ◌*◌, ◌<◌, ◌≤◌, true, false, not, ◌||◌, eqb, leb, List, length, get_or, take, drop, sym, ap, ◌∙◌, ⊎_elim, arith, length-take-le, get_or-take}
+use Rattle.std.proofs.Common.{◌≡◌, ℕ, ◌+◌, ◌-◌, ◌*◌, ◌<◌, ◌≤◌, true, false, not, ◌||◌, eqb, leb, List, length, get_or, take, drop, pos, sym, ap, ◌∙◌, ⊎_elim, arith, length-take-le, get_or-take}
 use Rattle.std.specs.Str.Parse.{digits_value}
 use Rattle.std.specs.Int.{IsInRange}
 use Rattle.std.specs.Char.{is_ascii_digit, digit_value as digitValue}
 use Rattle.std.specs.Str.{all_ascii_digits}
+use Rattle.std.specs.Option.{option_map}
 use Rattle.std.proofs.lemmas.Int.Digits.{digits_value_more}
 use Rattle.std.proofs.lemmas.Str.Parse.{IsNumeralModel, numerals_by_value, tells_all_ascii_digits, tells_by_index, digits_value_short}
 use Rattle.std.proofs.lemmas.Bool.{leb-true, eqb-true, eq-eqb, ne_eqb, le-leb, and_parts, and_from, or_left, or_right, or_cases, not_from_false, not-true, cases_eq, cases_Bool, both_ways, cond-true, cond-false}
 use Rattle.std.proofs.lemmas.Bool.Decides.{nat_tests}
-use Rattle.vendor.specs.Numbers.{plain, number, magnitude_of, at_least_zero, below_zero}
+use Rattle.vendor.specs.Numbers.{plain, number, magnitude_of, below_zero}
 
 -- each of the first n bytes is a digit
 abbrev pub DigitsBelow : List ℕ → ℕ → Type 0
@@ -78,19 +79,23 @@ plain_parts ds e =
 told_digit : (b : ℕ) → IsInRange 48 57 b → is_ascii_digit b ≡ true
 told_digit b h = and_from (leb 48 b) (leb b 57) (le-leb 48 b h.0) (le-leb b 57 h.1)
 
--- a byte that is no digit leaves nothing plain
-pub not_plain_at : (ds : List ℕ) (i : ℕ) → i < length ds → false ≡ is_ascii_digit (get_or ds i 0) → plain ds ≡ false
-not_plain_at ds i within h =
-    ⊎_elim (λ e. absurd (both_ways (is_ascii_digit (get_or ds i 0)) (sym h) (told_digit (get_or ds i 0) ((plain_parts ds e).each i within)))) (λ e. e) (cases_Bool (plain ds))
+-- a byte that is no digit leaves no text of digits
+pub no_digits_at : (ds : List ℕ) (i : ℕ) → i < length ds → false ≡ is_ascii_digit (get_or ds i 0) → all_ascii_digits ds ≡ false
+no_digits_at ds i within h =
+    ⊎_elim (λ e. absurd (both_ways (is_ascii_digit (get_or ds i 0)) (sym h) (told_digit (get_or ds i 0) (digits_each ds e i within)))) (λ e. e) (cases_Bool (all_ascii_digits ds))
 
 pub is_digit : (b : ℕ) → is_ascii_digit b ≡ true → IsInRange 48 57 b
 is_digit b e = let p = and_parts (leb 48 b) (leb b 57) e in (leb-true 48 b p.0, leb-true b 57 p.1)
 
+-- eight digits write less than a hundred million
+pub eight : (ds : List ℕ) → DigitsBelow ds (length ds) → length ds ≤ 8 → digits_value 10 ds < 100000000
+eight ds each few = digits_value_short by_place ds 8 each few
+
 pub plain_value : (ds : List ℕ) → Plain ds → digits_value 10 ds < 100000000
-plain_value ds p = digits_value_short by_place ds 8 p.each p.short.few
+plain_value ds p = eight ds p.each p.short.few
 
 -- a text with no minus in front, and one with it
-pub number_unsigned : (text : List ℕ) → (get_or text 0 0 ≡ 45 → ⊥) → number text ≡ at_least_zero (magnitude_of text)
+pub number_unsigned : (text : List ℕ) → (get_or text 0 0 ≡ 45 → ⊥) → number text ≡ option_map pos (magnitude_of text)
 unfolding number
 number_unsigned text ne = cond-false (eqb (get_or text 0 0) 45) _ _ (ne_eqb (get_or text 0 0) 45 ne)
 

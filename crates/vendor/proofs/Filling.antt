@@ -12,7 +12,7 @@ use Rattle.vendor.specs.declared.rows.Entry.{Entry}
 use Rattle.vendor.specs.Files.{lines, fault_of, place, row_or, fault_from, entries, after, after_all, table, Contents, RightLengths, sized, filled, told, first, second, first_natural}
 use Rattle.vendor.specs.declared.tables.Tables.{Tables}
 use Rattle.vendor.specs.Fills.{cleared, put, written, NamesACell, SamePlaces}
-use Rattle.vendor.specs.Rows.{Line, fields, entry_of, place_of, row_fault, start}
+use Rattle.vendor.specs.Rows.{Line, fields, entry_of, place_of, row_fault}
 use Rattle.vendor.specs.Walks.{tail}
 use Rattle.vendor.proofs.Inside.{Faultless, names_a_cell, lies_in}
 use Rattle.vendor.proofs.Passes.{ReadOn}
@@ -111,11 +111,11 @@ module _ (sh : Shape) (all : List Entry) where
 
 no_row : (o : Option RowFault) (n : ℕ) (later : Option FileFault) → row_or o n later ≡ None → (o ≡ None) × (later ≡ None)
 no_row None n later e = (refl, e)
-no_row (Some f) n later e = let z : ◌≡◌ {A = ℕ} 0 1 = cc in absurd (omega arith)
+no_row (Some f) n later e = absurd (cc)
 
-pub faultless : (sh : Shape) (n : ℕ) (last : Last) (ls : List Line) → fault_from sh n last ls ≡ None → Faultless sh last ls
+pub faultless : (sh : Shape) (n : ℕ) (last : Option Last) (ls : List Line) → fault_from sh n last ls ≡ None → Faultless sh last ls
 faultless sh n last [] e = tt
-faultless sh n last (l ∷ ls) e = let r = no_row (row_fault sh last l) n _ e in (r.0, faultless sh (n + 1) (place l) ls r.1)
+faultless sh n last (l ∷ ls) e = let r = no_row (row_fault sh last l) n _ e in (r.0, faultless sh (n + 1) (Some (place l)) ls r.1)
 
 pub sized_parts : (sh : Shape) (c : Contents) → sized sh c ≡ true → RightLengths sh c
 sized_parts sh c e =
@@ -137,13 +137,13 @@ sized_parts sh c e =
       fall = eqb-true _ _ k.1;
     }
 
-module _ (sh : Shape) (last : Last) (ls : List Line) (e : Entry) (r : ReadOn sh last ls e) where
+module _ (sh : Shape) (last : Option Last) (ls : List Line) (e : Entry) (r : ReadOn sh last ls e) where
   -- the row that is read is the first ahead
   pub entries_on : entries ls ≡ e ∷ entries (tail ls)
   entries_on = ap entries r.is ∙ ap (λ x. x ∷ entries (tail ls)) (sym r.told)
 
-  pub faultless_on : Faultless sh last ls → Faultless sh (place_of e) (tail ls)
-  faultless_on h = subst (λ x. Faultless sh (place_of x) (tail ls)) (sym r.told) (subst (Faultless sh last) r.is h).1
+  pub faultless_on : Faultless sh last ls → Faultless sh (Some (place_of e)) (tail ls)
+  faultless_on h = subst (λ x. Faultless sh (Some (place_of x)) (tail ls)) (sym r.told) (subst (Faultless sh last) r.is h).1
 
   pub names_on : NamesACell sh e
   names_on = subst (NamesACell sh) (sym r.told) (names_a_cell sh (entry_of (fields r.row)) (lies_in sh last r.row r.sound))
@@ -163,24 +163,24 @@ pub same_places_none : (a : Tables) → SamePlaces a a
 same_places_none a = record { marks = refl; outputs = refl; system = refl; upper = refl; lower = refl; rise = refl; fall = refl }
 
 -- the second pass: no row ahead has a fault, and the tables are on their way
-pub record Writing (sh : Shape) (file : List ℕ) (last : Last) (ahead : List Line) (c : Contents) : Type 0 where
+pub record Writing (sh : Shape) (file : List ℕ) (last : Option Last) (ahead : List Line) (c : Contents) : Type 0 where
   pub sound : Faultless sh last ahead
   pub tables : Filling sh (entries (lines file)) c (entries ahead)
 
 module _ (sh : Shape) (file : List ℕ) where
-  pub writing_none : (last : Last) (ahead : List Line) (c d : Contents) → fault_of sh file ≡ None → RightLengths sh c → last ≡ start → ahead ≡ lines file → d ≡ cleared c → Writing sh file last ahead d
+  pub writing_none : (last : Option Last) (ahead : List Line) (c d : Contents) → fault_of sh file ≡ None → RightLengths sh c → last ≡ None → ahead ≡ lines file → d ≡ cleared c → Writing sh file last ahead d
   writing_none last ahead c d none s first all clear =
-      subst (λ l. Writing sh file l ahead d) (sym first) (subst (λ ls. Writing sh file start ls d) (sym all) (subst (Writing sh file start (lines file)) (sym clear)
-      (record { sound = faultless sh 1 start (lines file) none; tables = filling_none sh (entries (lines file)) c s })))
+      subst (λ l. Writing sh file l ahead d) (sym first) (subst (λ ls. Writing sh file None ls d) (sym all) (subst (Writing sh file None (lines file)) (sym clear)
+      (record { sound = faultless sh 1 None (lines file) none; tables = filling_none sh (entries (lines file)) c s })))
 
-  pub writing_more : (last last' : Last) (ahead ahead' : List Line) (c d : Contents) (e : Entry) → Writing sh file last ahead c → ReadOn sh last ahead e
-      → last' ≡ place_of e → ahead' ≡ tail ahead → d ≡ written sh e c → Writing sh file last' ahead' d
+  pub writing_more : (last last' : Option Last) (ahead ahead' : List Line) (c d : Contents) (e : Entry) → Writing sh file last ahead c → ReadOn sh last ahead e
+      → last' ≡ Some (place_of e) → ahead' ≡ tail ahead → d ≡ written sh e c → Writing sh file last' ahead' d
   writing_more last last' ahead ahead' c d e w r moved on put =
-      subst (λ l. Writing sh file l ahead' d) (sym moved) (subst (λ ls. Writing sh file (place_of e) ls d) (sym on) (subst (Writing sh file (place_of e) (tail ahead)) (sym put)
+      subst (λ l. Writing sh file l ahead' d) (sym moved) (subst (λ ls. Writing sh file (Some (place_of e)) ls d) (sym on) (subst (Writing sh file (Some (place_of e)) (tail ahead)) (sym put)
       (record {
         sound = faultless_on sh last ahead e r w.sound;
         tables = filling_more sh (entries (lines file)) c e (entries (tail ahead)) (subst (Filling sh (entries (lines file)) c) (entries_on sh last ahead e r) w.tables);
       })))
 
-  pub writing_all : (last : Last) (ahead : List Line) (c : Contents) → Writing sh file last ahead c → ahead ≡ [] → c ≡ filled sh (entries (lines file))
+  pub writing_all : (last : Option Last) (ahead : List Line) (c : Contents) → Writing sh file last ahead c → ahead ≡ [] → c ≡ filled sh (entries (lines file))
   writing_all last ahead c w out = filling_all sh (entries (lines file)) c (subst (λ ls. Filling sh (entries (lines file)) c (entries ls)) out w.tables)

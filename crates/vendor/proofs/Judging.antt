@@ -10,13 +10,13 @@ use Rattle.vendor.specs.declared.faults.FileFault.TheVariants.{Row}
 use Rattle.vendor.specs.declared.rows.Shape.{Shape}
 use Rattle.vendor.specs.declared.rows.Last.{Last}
 use Rattle.vendor.specs.declared.rows.Group.{Group}
-use Rattle.vendor.specs.declared.rows.Group.TheVariants.{Nothing, Outputs, System, Lines, Ramps}
+use Rattle.vendor.specs.declared.rows.Group.TheVariants.{Outputs, System, Lines, Ramps}
 use Rattle.vendor.specs.declared.rows.Entry.{Entry}
 use Rattle.vendor.specs.declared.rows.Entry.TheVariants as entry
 use Rattle.vendor.specs.Files.{lines, place, row_or, fault_from, fault_of, entries, cell, told, numbers_of, first, second, first_natural, after, after_all, table, filled}
 use Rattle.vendor.specs.Fills.{NamesACell}
 use Rattle.vendor.specs.Format.{fault_at, AllSound, FirstFaulty, entry_at, Holds, TablesHold}
-use Rattle.vendor.specs.Rows.{Line, fields, entry_of, place_of, follows, rank, row_fault, start}
+use Rattle.vendor.specs.Rows.{Line, fields, entry_of, place_of, follows, rank, row_fault}
 use Rattle.vendor.proofs.Inside.{Faultless, LiesIn, lies_in, names_a_cell, sound}
 
 -- the row that stands for none
@@ -24,32 +24,32 @@ abbrev empty : Line
 empty = record { bytes = []; ended = false }
 
 -- the same as `fault_at`, over any rows that come after `last`
-abbrev place_in : Last → List Line → ℕ → Last
+abbrev place_in : Option Last → List Line → ℕ → Option Last
 place_in last ls zero = last
-place_in last ls (suc k) = place (get_or ls k empty)
+place_in last ls (suc k) = Some (place (get_or ls k empty))
 
-abbrev fault_in : Shape → Last → List Line → ℕ → Option RowFault
+abbrev fault_in : Shape → Option Last → List Line → ℕ → Option RowFault
 fault_in sh last ls k = row_fault sh (place_in last ls k) (get_or ls k empty)
 
 module _ (sh : Shape) where
-  in_tail : (last : Last) (l : Line) (ls : List Line) (k : ℕ) → fault_in sh last (l ∷ ls) (suc k) ≡ fault_in sh (place l) ls k
+  in_tail : (last : Option Last) (l : Line) (ls : List Line) (k : ℕ) → fault_in sh last (l ∷ ls) (suc k) ≡ fault_in sh (Some (place l)) ls k
   in_tail last l ls zero = refl
   in_tail last l ls (suc k) = refl
 
-  at_in : (file : List ℕ) (k : ℕ) → fault_at sh file k ≡ fault_in sh start (lines file) k
+  at_in : (file : List ℕ) (k : ℕ) → fault_at sh file k ≡ fault_in sh None (lines file) k
   at_in file zero = refl
   at_in file (suc k) = refl
 
-  sound_in : (last : Last) (ls : List Line) → Faultless sh last ls → (k : ℕ) → k < length ls → fault_in sh last ls k ≡ None
+  sound_in : (last : Option Last) (ls : List Line) → Faultless sh last ls → (k : ℕ) → k < length ls → fault_in sh last ls k ≡ None
   sound_in last [] h k within = absurd (omega arith)
   sound_in last (l ∷ ls) h zero within = h.0
-  sound_in last (l ∷ ls) h (suc k) within = in_tail last l ls k ∙ sound_in (place l) ls h.1 k (omega arith)
+  sound_in last (l ∷ ls) h (suc k) within = in_tail last l ls k ∙ sound_in (Some (place l)) ls h.1 k (omega arith)
 
-  pub all_sound : (file : List ℕ) → Faultless sh start (lines file) → AllSound sh file
-  all_sound file h k within = at_in file k ∙ sound_in start (lines file) h k within
+  pub all_sound : (file : List ℕ) → Faultless sh None (lines file) → AllSound sh file
+  all_sound file h k within = at_in file k ∙ sound_in None (lines file) h k within
 
   -- the first faulty row of some rows that are counted from n
-  record FirstIn (n : ℕ) (last : Last) (ls : List Line) (g : FileFault) : Type 0 where
+  record FirstIn (n : ℕ) (last : Option Last) (ls : List Line) (g : FileFault) : Type 0 where
     k : ℕ
     f : RowFault
     told_so : g ≡ Row (n + k) f
@@ -57,7 +57,7 @@ module _ (sh : Shape) where
     before : (j : ℕ) → j < k → fault_in sh last ls j ≡ None
     fault : fault_in sh last ls k ≡ Some f
 
-  later_in : (n : ℕ) (last : Last) (l : Line) (ls : List Line) (g : FileFault) → row_fault sh last l ≡ None → FirstIn (n + 1) (place l) ls g → FirstIn n last (l ∷ ls) g
+  later_in : (n : ℕ) (last : Option Last) (l : Line) (ls : List Line) (g : FileFault) → row_fault sh last l ≡ None → FirstIn (n + 1) (Some (place l)) ls g → FirstIn n last (l ∷ ls) g
   later_in n last l ls g none r = record {
     k = suc r.k;
     f = r.f;
@@ -71,11 +71,11 @@ module _ (sh : Shape) where
       before_all zero h = none
       before_all (suc j) h = in_tail last l ls j ∙ r.before j (omega arith)
 
-  first_in : (n : ℕ) (last : Last) (ls : List Line) (g : FileFault) → fault_from sh n last ls ≡ Some g → FirstIn n last ls g
-  first_in n last [] g e = let z : ◌≡◌ {A = ℕ} 0 1 = cc in absurd (omega arith)
-  first_in n last (l ∷ ls) g e = by (row_fault sh last l) refl e (first_in (n + 1) (place l) ls g)
+  first_in : (n : ℕ) (last : Option Last) (ls : List Line) (g : FileFault) → fault_from sh n last ls ≡ Some g → FirstIn n last ls g
+  first_in n last [] g e = absurd (cc)
+  first_in n last (l ∷ ls) g e = by (row_fault sh last l) refl e (first_in (n + 1) (Some (place l)) ls g)
     where
-      by : (o : Option RowFault) → row_fault sh last l ≡ o → row_or o n (fault_from sh (n + 1) (place l) ls) ≡ Some g → (fault_from sh (n + 1) (place l) ls ≡ Some g → FirstIn (n + 1) (place l) ls g) → FirstIn n last (l ∷ ls) g
+      by : (o : Option RowFault) → row_fault sh last l ≡ o → row_or o n (fault_from sh (n + 1) (Some (place l)) ls) ≡ Some g → (fault_from sh (n + 1) (Some (place l)) ls ≡ Some g → FirstIn (n + 1) (Some (place l)) ls g) → FirstIn n last (l ∷ ls) g
       by None is e later = later_in n last l ls g is (later e)
       by (Some f) is e later = record {
         k = 0;
@@ -89,7 +89,7 @@ module _ (sh : Shape) where
   -- the fault of a file is that of its first faulty row, counted from 1
   pub first_faulty : (file : List ℕ) (g : FileFault) → fault_of sh file ≡ Some g → (k : ℕ) × (f : RowFault) × (g ≡ Row (k + 1) f) × FirstFaulty sh file k f
   first_faulty file g e =
-      let r = first_in 1 start (lines file) g e in (
+      let r = first_in 1 None (lines file) g e in (
         r.k,
         r.f,
         r.told_so ∙ ap (λ m. Row m r.f) (omega arith),
@@ -121,26 +121,27 @@ apart w g i t h j u a same t1 tw u1 uw cells =
     (rising g i t h j u a same)
 
 module _ (sh : Shape) where
-  follows_on : (p q r : Last) → follows p q ≡ true → follows q r ≡ true → follows p r ≡ true
-  follows_on p q r a b = later_on (rank p.group) p.index p.period (rank q.group) q.index q.period (rank r.group) r.index r.period a b
+  follows_on : (p : Option Last) (q r : Last) → follows p q ≡ true → follows (Some q) r ≡ true → follows p r ≡ true
+  follows_on None q r a b = refl
+  follows_on (Some p) q r a b = later_on (rank p.group) p.index p.period (rank q.group) q.index q.period (rank r.group) r.index r.period a b
 
   -- every row comes after what stood before the first
-  after_last : (last : Last) (ls : List Line) → Faultless sh last ls → (k : ℕ) → k < length ls → follows last (place (get_or ls k empty)) ≡ true
+  after_last : (last : Option Last) (ls : List Line) → Faultless sh last ls → (k : ℕ) → k < length ls → follows last (place (get_or ls k empty)) ≡ true
   after_last last [] h k within = absurd (omega arith)
   after_last last (l ∷ ls) h zero within = (sound sh last l h.0).after
   after_last last (l ∷ ls) h (suc k) within =
-      follows_on last (place l) (place (get_or ls k empty)) (sound sh last l h.0).after (after_last (place l) ls h.1 k (omega arith))
+      follows_on last (place l) (place (get_or ls k empty)) (sound sh last l h.0).after (after_last (Some (place l)) ls h.1 k (omega arith))
 
-  in_order : (last : Last) (ls : List Line) → Faultless sh last ls → (j k : ℕ) → j < k → k < length ls → follows (place (get_or ls j empty)) (place (get_or ls k empty)) ≡ true
+  in_order : (last : Option Last) (ls : List Line) → Faultless sh last ls → (j k : ℕ) → j < k → k < length ls → follows (Some (place (get_or ls j empty))) (place (get_or ls k empty)) ≡ true
   in_order last [] h j k lt within = absurd (omega arith)
   in_order last (l ∷ ls) h j zero lt within = absurd (omega arith)
-  in_order last (l ∷ ls) h zero (suc k) lt within = after_last (place l) ls h.1 k (omega arith)
-  in_order last (l ∷ ls) h (suc j) (suc k) lt within = in_order (place l) ls h.1 j k (omega arith) (omega arith)
+  in_order last (l ∷ ls) h zero (suc k) lt within = after_last (Some (place l)) ls h.1 k (omega arith)
+  in_order last (l ∷ ls) h (suc j) (suc k) lt within = in_order (Some (place l)) ls h.1 j k (omega arith) (omega arith)
 
-  lies_each : (last : Last) (ls : List Line) → Faultless sh last ls → (k : ℕ) → k < length ls → LiesIn sh (entry_of (fields (get_or ls k empty)))
+  lies_each : (last : Option Last) (ls : List Line) → Faultless sh last ls → (k : ℕ) → k < length ls → LiesIn sh (entry_of (fields (get_or ls k empty)))
   lies_each last [] h k within = absurd (omega arith)
   lies_each last (l ∷ ls) h zero within = lies_in sh last l h.0
-  lies_each last (l ∷ ls) h (suc k) within = lies_each (place l) ls h.1 k (omega arith)
+  lies_each last (l ∷ ls) h (suc k) within = lies_each (Some (place l)) ls h.1 k (omega arith)
 
   period_lies : (e : Entry) → LiesIn sh e → (1 ≤ (place_of e).period) × ((place_of e).period ≤ sh.periods)
   period_lies (entry.Output r t m o) h = (h.1, h.2)
@@ -161,10 +162,10 @@ module _ {A : Type 0} (sh : Shape) (g : Group) (pick : ℤ × ℤ → A) where
       by true same is =
           let p : ◌≡◌ {A = ℕ × A} (cell sh (place_of e).index (place_of e).period, pick (numbers_of e)) (i, v) = cc in
           record { letter = eqb-true _ _ same; where_it_is = sym (ap (λ (q : ℕ × A). q.0) p) }
-      by false same is = let z : ◌≡◌ {A = ℕ} 0 1 = cc in absurd (omega arith)
+      by false same is = absurd (cc)
 
   -- of two rows in the order of the file, not both name one cell
-  not_both : (e d : Entry) (i : ℕ) (v w : A) → follows (place_of e) (place_of d) ≡ true → LiesIn sh e → LiesIn sh d → told sh g pick e ≡ Some (i, v) → told sh g pick d ≡ Some (i, w) → ⊥
+  not_both : (e d : Entry) (i : ℕ) (v w : A) → follows (Some (place_of e)) (place_of d) ≡ true → LiesIn sh e → LiesIn sh d → told sh g pick e ≡ Some (i, v) → told sh g pick d ≡ Some (i, w) → ⊥
   not_both e d i v w order le ld te td =
       let a = tells_so e i v te in
       let b = tells_so d i w td in
@@ -187,16 +188,16 @@ module _ {A : Type 0} (sh : Shape) (g : Group) (pick : ℤ × ℤ → A) where
   set_so o i v x is = ap (λ p. after p i x) is ∙ cond-true (eqb i i) _ _ (eq-eqb i i refl)
 
   -- a cell that one row names, and no row after it, holds what that row tells
-  named_holds : (last : Last) (ls : List Line) → Faultless sh last ls → (k i : ℕ) (v x : A) → k < length ls → told sh g pick (entry_of (fields (get_or ls k empty))) ≡ Some (i, v) → after_all (told sh g pick) i x (entries ls) ≡ v
+  named_holds : (last : Option Last) (ls : List Line) → Faultless sh last ls → (k i : ℕ) (v x : A) → k < length ls → told sh g pick (entry_of (fields (get_or ls k empty))) ≡ Some (i, v) → after_all (told sh g pick) i x (entries ls) ≡ v
   named_holds last [] h k i v x within tells-it = absurd (omega arith)
-  named_holds last (l ∷ ls) h (suc k) i v x within tells-it = named_holds (place l) ls h.1 k i v _ (omega arith) tells-it
+  named_holds last (l ∷ ls) h (suc k) i v x within tells-it = named_holds (Some (place l)) ls h.1 k i v _ (omega arith) tells-it
   named_holds last (l ∷ ls) h zero i v x within tells-it =
       unnamed_stays ls i _ (λ k w lt tells_too. not_both (entry_of (fields l)) (entry_of (fields (get_or ls k empty))) i v w
-      (after_last sh (place l) ls h.1 k lt) (lies_in sh last l h.0) (lies_each sh (place l) ls h.1 k lt) tells-it tells_too)
+      (after_last sh (Some (place l)) ls h.1 k lt) (lies_in sh last l h.0) (lies_each sh (Some (place l)) ls h.1 k lt) tells-it tells_too)
       ∙ set_so (told sh g pick (entry_of (fields l))) i v x tells-it
 
   -- rows that name one cell are one row
-  same_row : (last : Last) (ls : List Line) → Faultless sh last ls → (j k i : ℕ) (v w : A) → j < length ls → k < length ls
+  same_row : (last : Option Last) (ls : List Line) → Faultless sh last ls → (j k i : ℕ) (v w : A) → j < length ls → k < length ls
       → told sh g pick (entry_of (fields (get_or ls j empty))) ≡ Some (i, v) → told sh g pick (entry_of (fields (get_or ls k empty))) ≡ Some (i, w) → j ≡ k
   same_row last ls h j k i v w jn kn tj tk =
       ⊎_elim (λ e. e)
@@ -206,7 +207,6 @@ module _ {A : Type 0} (sh : Shape) (g : Group) (pick : ℤ × ℤ → A) where
 
 -- how many cells the tables of a letter have
 abbrev cells_of : Shape → Group → ℕ
-cells_of sh Nothing = 0
 cells_of sh Outputs = sh.size * sh.periods
 cells_of sh System = sh.periods
 cells_of sh Lines = sh.lines * sh.periods
@@ -220,15 +220,13 @@ in_table sh (entry.Ramp r t x y) h = h.1
 
 -- a letter by its place among the letters
 ranked : ℕ → Group
-ranked zero = Nothing
-ranked (suc zero) = Outputs
-ranked (suc (suc zero)) = System
-ranked (suc (suc (suc zero))) = Lines
-ranked (suc (suc (suc (suc n)))) = Ramps
+ranked zero = Outputs
+ranked (suc zero) = System
+ranked (suc (suc zero)) = Lines
+ranked (suc (suc (suc n))) = Ramps
 
 rank_back : (g : Group) → ranked (rank g) ≡ g
 unfolding ranked
-rank_back Nothing = refl
 rank_back Outputs = refl
 rank_back System = refl
 rank_back Lines = refl
@@ -237,21 +235,21 @@ rank_back Ramps = refl
 same_rank : (g h : Group) → rank g ≡ rank h → g ≡ h
 same_rank g h e = sym (rank_back g) ∙ ap ranked e ∙ rank_back h
 
-module _ {A : Type 0} (sh : Shape) (g : Group) (pick : ℤ × ℤ → A) (zero : A) (file : List ℕ) (h : Faultless sh start (lines file)) where
+module _ {A : Type 0} (sh : Shape) (g : Group) (pick : ℤ × ℤ → A) (zero : A) (file : List ℕ) (h : Faultless sh None (lines file)) where
   holds : Holds (told sh g pick) (cells_of sh g) zero file (table (told sh g pick) (cells_of sh g) zero (entries (lines file)))
   holds = record {
     long = length-map-range_with_len _ 0 (cells_of sh g);
     named = λ k i v within is.
         let e : Entry = entry_at file k in
-        let lies = lies_each sh start (lines file) h k within in
+        let lies = lies_each sh None (lines file) h k within in
         let t = tells_so sh g pick e i v is in
         let inside : i < cells_of sh g = subst (λ c. i < cells_of sh c) (sym (same_rank g (place_of e).group t.letter)) (subst (λ c. c < cells_of sh (place_of e).group) (sym t.where_it_is) (in_table sh e (names_a_cell sh e lies))) in
-        (inside, get_or-map-range_with_len _ 0 (cells_of sh g) i i zero inside (omega arith) ∙ named_holds sh g pick start (lines file) h k i v zero within is);
-    once = λ j k i v w jn kn tj tk. same_row sh g pick start (lines file) h j k i v w jn kn tj tk;
+        (inside, get_or-map-range_with_len _ 0 (cells_of sh g) i i zero inside (omega arith) ∙ named_holds sh g pick None (lines file) h k i v zero within is);
+    once = λ j k i v w jn kn tj tk. same_row sh g pick None (lines file) h j k i v w jn kn tj tk;
     unnamed = λ i inside none. get_or-map-range_with_len _ 0 (cells_of sh g) i i zero inside (omega arith) ∙ unnamed_stays sh g pick (lines file) i zero none;
   }
 
-pub tables_hold : (sh : Shape) (file : List ℕ) → Faultless sh start (lines file) → TablesHold sh file (filled sh (entries (lines file)))
+pub tables_hold : (sh : Shape) (file : List ℕ) → Faultless sh None (lines file) → TablesHold sh file (filled sh (entries (lines file)))
 tables_hold sh file h = record {
   marks = holds sh Outputs first_natural 0 file h;
   outputs = holds sh Outputs second (pos 0) file h;

@@ -1,19 +1,20 @@
 -- The rows that are left of a file, one after another. Assumes nothing.
-use Rattle.std.proofs.Common.{◌≡◌, ℕ, suc, ◌+◌, ◌-◌, ◌<◌, ◌≤◌, true, false, cond, eqb, List, [], ◌∷◌, length, get_or, take, drop, Some, None, Ok, Err, sym, refl, ap, ◌∙◌, subst, arith, length-drop}
+use Rattle.std.proofs.Common.{◌≡◌, ℕ, suc, ◌+◌, ◌-◌, ◌<◌, ◌≤◌, true, false, cond, eqb, List, [], ◌∷◌, length, get_or, take, drop, Some, None, Ok, Err, Option, Result, MatchResult, sym, refl, ap, ◌∙◌, subst, arith, length-drop}
 use Rattle.std.proofs.lemmas.List.{drop-drop, drop_all, take_rest}
 use Rattle.vendor.specs.declared.rows.Row.{Row}
 use Rattle.vendor.specs.declared.rows.Row.TheVariants as row
 use Rattle.vendor.specs.declared.faults.RowFault.{RowFault}
+use Rattle.vendor.specs.declared.faults.RowFault.TheVariants.{Unended}
 use Rattle.vendor.specs.Files.{lines, lines_of}
-use Rattle.std.specs.List.{AllByRecursion}
-use Rattle.vendor.specs.Pieces.{pieces, onto, joined_by, Lacks}
+use Rattle.std.specs.List.{AllByRecursion, join_with_byte, onto_first}
+use Rattle.vendor.specs.Pieces.{pieces, Lacks}
 use Rattle.vendor.specs.Rows.{Line, fields, fields_of, first_no}
-use Rattle.vendor.specs.Walks.{fields_left, letter_questions, HandedOn}
+use Rattle.vendor.specs.Walks.{fields_left, letter_questions, HandedOn, tail}
 use Rattle.vendor.proofs.Cuts.{cut_here, cut_last, some_left}
 use Rattle.vendor.proofs.Formats.{pieces_between}
 
 -- there is always a first piece
-onto_some : (b : ℕ) (ps : List (List ℕ)) → (q : List ℕ) × (qs : List (List ℕ)) × (onto b ps ≡ q ∷ qs)
+onto_some : (b : ℕ) (ps : List (List ℕ)) → (q : List ℕ) × (qs : List (List ℕ)) × (onto_first b ps ≡ q ∷ qs)
 onto_some b [] = (b ∷ [], [], refl)
 onto_some b (p ∷ ps) = (b ∷ p, ps, refl)
 
@@ -21,7 +22,7 @@ pub pieces_some : (sep : ℕ) (bs : List ℕ) → (q : List ℕ) × (qs : List (
 unfolding pieces
 pieces_some sep [] = ([], [], refl)
 pieces_some sep (b ∷ bs) =
-    elim (eqb b sep) as (λ t. (q : List ℕ) × (qs : List (List ℕ)) × (cond t ([] ∷ pieces sep bs) (onto b (pieces sep bs)) ≡ q ∷ qs))
+    elim (eqb b sep) as (λ t. (q : List ℕ) × (qs : List (List ℕ)) × (cond t ([] ∷ pieces sep bs) (onto_first b (pieces sep bs)) ≡ q ∷ qs))
     [ true ↦ ([], pieces sep bs, refl) | false ↦ onto_some b (pieces sep bs) ]
 
 pub lines_cons : (p : List ℕ) (ps : List (List ℕ)) (q : List ℕ) (qs : List (List ℕ)) → ps ≡ q ∷ qs → lines_of (p ∷ ps) ≡ record { bytes = p; ended = true } ∷ lines_of ps
@@ -84,17 +85,42 @@ kind_known (row.System t p) = refl
 kind_known (row.Line l t u w) = refl
 kind_known (row.Ramp r t x y) = refl
 
-module _ (file : List ℕ) (at n : ℕ) (later : List Line) (here : lines (drop at file) ≡ row_at file at n ∷ later) where
-  pub handed_on : (r : Row) → fields_of r ≡ fields_left file at (at + n) → HandedOn (lines (drop at file)) (Ok (Some r))
-  handed_on r is =
+-- what is handed on of the row that begins at `at`, and that the rows after it begin at `next`
+pub record Passed (file : List ℕ) (at : ℕ) (r : Result (Option Row) RowFault) (next : ℕ) : Type 0 where
+  pub answer : HandedOn (lines (drop at file)) r
+  pub rows : lines (drop next file) ≡ tail (lines (drop at file))
+
+pub passed_none : (file : List ℕ) (at : ℕ) → length file ≤ at → Passed file at (Ok None) (length file)
+passed_none file at past =
+    let none = no_rows file at past in
+    record { answer = subst (λ ls. HandedOn ls (Ok None)) (sym none) refl; rows = no_rows file (length file) (omega arith) ∙ sym (ap tail none) }
+
+module _ (file : List ℕ) (at n : ℕ) (look : Looked file at n) where
+  pub passed_unended : at < length file → at + n ≡ length file → Passed file at (Err Unended) (length file)
+  passed_unended some to_end =
+      let last = row_unended file at n look some to_end in
+      record { answer = subst (λ ls. HandedOn ls (Err Unended)) (sym last) refl; rows = no_rows file (length file) (omega arith) ∙ sym (ap tail last) }
+
+  handed_on : (r : Row) → at + n < length file → fields_of r ≡ fields_left file at (at + n) → HandedOn (lines (drop at file)) (Ok (Some r))
+  handed_on r inside is =
       let same = is ∙ fields_here file at n in
       let cut = (pieces_between 59 (row_at file at n).bytes).0 in
-      subst (λ ls. HandedOn ls (Ok (Some r))) (sym here) (record {
+      subst (λ ls. HandedOn ls (Ok (Some r))) (sym (row_here file at n look inside)) (record {
         sound = ap (λ fs. first_no (letter_questions fs)) (sym same) ∙ kind_known r;
         parts = same;
-        whole = ap (joined_by 59) same ∙ cut.whole;
+        whole = ap (join_with_byte 59) same ∙ cut.whole;
         clean = subst (AllByRecursion (Lacks 59)) (sym same) cut.clean;
       })
 
-  pub refused : (e : RowFault) → first_no (letter_questions (fields_left file at (at + n))) ≡ Some e → HandedOn (lines (drop at file)) (Err e)
-  refused e told = subst (λ ls. HandedOn ls (Err e)) (sym here) (ap (λ fs. first_no (letter_questions fs)) (sym (fields_here file at n)) ∙ told)
+  refused : (e : RowFault) → at + n < length file → first_no (letter_questions (fields_left file at (at + n))) ≡ Some e → HandedOn (lines (drop at file)) (Err e)
+  refused e inside told = subst (λ ls. HandedOn ls (Err e)) (sym (row_here file at n look inside)) (ap (λ fs. first_no (letter_questions fs)) (sym (fields_here file at n)) ∙ told)
+
+  -- a row that ended, as it was cut
+  pub passed_cut : (cut : Result Row RowFault) (r : Result (Option Row) RowFault) → at + n < length file
+      → MatchResult cut (λ row. r ≡ Ok (Some row)) (λ e. r ≡ Err e)
+      → MatchResult cut (λ row. fields_of row ≡ fields_left file at (at + n)) (λ e. first_no (letter_questions (fields_left file at (at + n))) ≡ Some e)
+      → Passed file at r (at + n + 1)
+  passed_cut (Ok row) r inside is told =
+      record { answer = subst (HandedOn (lines (drop at file))) (sym is) (handed_on row inside told); rows = sym (ap tail (row_here file at n look inside)) }
+  passed_cut (Err e) r inside is told =
+      record { answer = subst (HandedOn (lines (drop at file))) (sym is) (refused e inside told); rows = sym (ap tail (row_here file at n look inside)) }

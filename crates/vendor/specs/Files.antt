@@ -1,5 +1,5 @@
 -- A whole file: its rows, its fault, and what its tables hold. Assumes nothing.
-use Rattle.std.specs.Prelude.{◌≡◌, ℕ, ◌+◌, ◌-◌, ◌*◌, ◌≤◌, Bool, true, false, cond, ◌&&◌, List, [], ◌∷◌, map, length, ℤ, pos, Some, None, Ok, Err, Option, Result, ◌==◌, nat_le}
+use Rattle.std.specs.Prelude.{◌≡◌, ℕ, ◌+◌, ◌-◌, ◌*◌, ◌≤◌, Bool, true, false, cond, ◌&&◌, List, [], ◌∷◌, map, length, ℤ, pos, Some, None, Option, Result, ◌==◌, nat_le}
 use Rattle.std.specs.List.{range_with_len}
 use Rattle.vendor.specs.declared.faults.RowFault.{RowFault}
 use Rattle.vendor.specs.declared.faults.FileFault.{FileFault}
@@ -15,7 +15,7 @@ use Rattle.vendor.specs.declared.tables.Counts.{Counts}
 use Rattle.vendor.specs.declared.tables.Tables as tables
 use Rattle.vendor.specs.Pieces.{pieces}
 use Rattle.vendor.specs.Rows as rows
-use Rattle.vendor.specs.Rows.{fields, natural, rank, entry_of, place_of, start, row_fault}
+use Rattle.vendor.specs.Rows.{fields, unless_no, natural, rank, entry_of, place_of, row_fault}
 
 -- what stands before each byte 10 is a row that it ended; what follows the last, if anything, is a row that none ended
 abbrev pub lines_of : List (List ℕ) → List rows.Line
@@ -37,12 +37,12 @@ row_or (Some e) n later = Some (Row n e)
 row_or None n later = later
 
 -- the fault of the first faulty row, of rows that are counted from n and come after `last`
-abbrev pub fault_from : Shape → ℕ → Last → List rows.Line → Option FileFault
+abbrev pub fault_from : Shape → ℕ → Option Last → List rows.Line → Option FileFault
 fault_from sh n last [] = None
-fault_from sh n last (l ∷ ls) = row_or (row_fault sh last l) n (fault_from sh (n + 1) (place l) ls)
+fault_from sh n last (l ∷ ls) = row_or (row_fault sh last l) n (fault_from sh (n + 1) (Some (place l)) ls)
 
 abbrev pub fault_of : Shape → List ℕ → Option FileFault
-fault_of sh file = fault_from sh 1 start (lines file)
+fault_of sh file = fault_from sh 1 None (lines file)
 
 abbrev pub entries : List rows.Line → List Entry
 entries ls = map (λ l. entry_of (fields l)) ls
@@ -145,20 +145,16 @@ none_counted = record { outputs = 0; system = 0; lines = 0; ramps = 0 }
 unfoldable pub whole_fault : Shape → List ℕ → Contents → Option FileFault
 whole_fault sh file c = cond (sized sh c) (fault_of sh file) (Some Whole)
 
-abbrev pub answered : Option FileFault → Counts → Result Counts FileFault
-answered None c = Ok c
-answered (Some e) c = Err e
-
 -- how rows are answered that are counted from n and come after `last`, with c counted before them
-abbrev pub rows_answer_from : Shape → ℕ → Last → Counts → List rows.Line → Result Counts FileFault
-rows_answer_from sh n last c ls = answered (fault_from sh n last ls) (counted c (entries ls))
+abbrev pub rows_answer_from : Shape → ℕ → Option Last → Counts → List rows.Line → Result Counts FileFault
+rows_answer_from sh n last c ls = unless_no (fault_from sh n last ls) (counted c (entries ls))
 
 abbrev pub rows_answer : Shape → List ℕ → Result Counts FileFault
-rows_answer sh file = rows_answer_from sh 1 start none_counted (lines file)
+rows_answer sh file = rows_answer_from sh 1 None none_counted (lines file)
 
 -- how a file is answered
 abbrev pub answer : Shape → List ℕ → Contents → Result Counts FileFault
-answer sh file c = answered (whole_fault sh file c) (counted none_counted (entries (lines file)))
+answer sh file c = unless_no (whole_fault sh file c) (counted none_counted (entries (lines file)))
 
 abbrev pub unless : {A : Type 0} → Option FileFault → A → A → A
 unless None refused taken = taken

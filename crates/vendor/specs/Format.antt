@@ -12,7 +12,7 @@ use Rattle.vendor.specs.declared.tables.Counts.{Counts}
 use Rattle.vendor.specs.Files.{lines, place, told, first, second, first_natural, Contents, RightLengths, entries, counted, none_counted}
 use Rattle.vendor.specs.Numbers.{number}
 use Rattle.vendor.specs.Pieces.{Lacks, PiecesAreWhatStandsBetween}
-use Rattle.vendor.specs.Rows.{Line, fields, entry_of, start, row_fault}
+use Rattle.vendor.specs.Rows.{Line, fields, entry_of, row_fault}
 
 -- a number is written as decimals are, with at most 8 digits; each text writes one number at most, and each number has one text
 pub record WrittenAs (bs : List ℕ) (z : ℤ) : Type 0 where
@@ -43,9 +43,10 @@ RowsAreWhatByte10Ends = (file : List ℕ) → (unsplit (lines file) ≡ file) ×
 abbrev pub row_at : List ℕ → ℕ → Line
 row_at file k = slice_index_or (lines file) k (record { bytes = []; ended = false })
 
-abbrev pub place_before : List ℕ → ℕ → Last
-place_before file zero = start
-place_before file (suc k) = place (row_at file k)
+-- the place of the row before it, if there is one
+abbrev pub place_before : List ℕ → ℕ → Option Last
+place_before file zero = None
+place_before file (suc k) = Some (place (row_at file k))
 
 -- the fault of row k: the first of its questions that has the answer no, asked beside the row before it
 abbrev pub fault_at : Shape → List ℕ → ℕ → Option RowFault

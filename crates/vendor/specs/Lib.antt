@@ -6,3 +6,4 @@ pub mod Files
 pub mod Walks
 pub mod Fills
 pub mod Format
+pub mod Cells

@@ -7,7 +7,7 @@ use Rattle.vendor.specs.declared.faults.RowFault.{RowFault}
 use Rattle.vendor.specs.declared.faults.RowFault.TheVariants.{Unended, UnknownLetter, FieldCount, Field, OutOfOrder}
 use Rattle.vendor.specs.declared.rows.Shape.{Shape}
 use Rattle.vendor.specs.declared.rows.Group.{Group}
-use Rattle.vendor.specs.declared.rows.Group.TheVariants.{Nothing, Outputs, System, Lines, Ramps}
+use Rattle.vendor.specs.declared.rows.Group.TheVariants.{Outputs, System, Lines, Ramps}
 use Rattle.vendor.specs.declared.rows.Last.{Last}
 use Rattle.vendor.specs.declared.rows.Row.{Row}
 use Rattle.vendor.specs.declared.rows.Row.TheVariants as row
@@ -26,30 +26,23 @@ abbrev pub fields : Line → List (List ℕ)
 fields l = pieces 59 l.bytes
 
 -- R (82), S (83), L (76) and G (71); any other byte is no letter
-abbrev pub group_of_byte : ℕ → Group
-group_of_byte b = cond (b == 82) Outputs (cond (b == 83) System (cond (b == 76) Lines (cond (b == 71) Ramps Nothing)))
+abbrev pub group_of_byte : ℕ → Option Group
+group_of_byte b = cond (b == 82) (Some Outputs) (cond (b == 83) (Some System) (cond (b == 76) (Some Lines) (cond (b == 71) (Some Ramps) None)))
 
 -- the first field is exactly one letter
-abbrev pub group : List (List ℕ) → Group
-group [] = Nothing
-group ([] ∷ fs) = Nothing
+abbrev pub group : List (List ℕ) → Option Group
+group [] = None
+group ([] ∷ fs) = None
 group ((b ∷ []) ∷ fs) = group_of_byte b
-group ((b ∷ c ∷ bs) ∷ fs) = Nothing
-
-abbrev pub known : Group → Bool
-known Nothing = false
-known Outputs = true
-known System = true
-known Lines = true
-known Ramps = true
+group ((b ∷ c ∷ bs) ∷ fs) = None
 
 -- how many fields a row has, its letter among them
-abbrev pub width : Group → ℕ
-width Nothing = 0
-width Outputs = 5
-width System = 3
-width Lines = 5
-width Ramps = 5
+abbrev pub width : Option Group → ℕ
+width None = 0
+width (Some Outputs) = 5
+width (Some System) = 3
+width (Some Lines) = 5
+width (Some Ramps) = 5
 
 -- a question's answer, with the fault that a no tells; the first no is the fault
 abbrev pub first_no : {F : Type 0} → List (Bool × F) → Option F
@@ -68,26 +61,21 @@ is_number text = is_some (number text)
 abbrev pub number_in : List ℕ → ℤ
 number_in text = unwrap_or (number text) (pos 0)
 
--- from 0 and below n
-abbrev pub below : ℕ → ℤ → Bool
-below n (pos k) = nat_lt k n
-below n (negsuc k) = false
-
--- 1 to n
-abbrev pub one_to : ℕ → ℤ → Bool
-one_to n (pos k) = nat_le 1 k && nat_le k n
-one_to n (negsuc k) = false
+-- one of the n numbers from `from` on: 0 to n - 1, or 1 to n
+abbrev pub one_of : ℕ → ℕ → ℤ → Bool
+one_of from n (pos k) = nat_le from k && nat_lt k (from + n)
+one_of from n (negsuc k) = false
 
 abbrev pub any : ℤ → Bool
 any z = true
 
 -- what each field after the letter may be
-abbrev pub columns : Shape → Group → List (ℤ → Bool)
-columns sh Nothing = []
-columns sh Outputs = below sh.size ∷ one_to sh.periods ∷ below 256 ∷ any ∷ []
-columns sh System = one_to sh.periods ∷ any ∷ []
-columns sh Lines = below sh.lines ∷ one_to sh.periods ∷ any ∷ any ∷ []
-columns sh Ramps = below sh.size ∷ one_to sh.periods ∷ any ∷ any ∷ []
+abbrev pub columns : Shape → Option Group → List (ℤ → Bool)
+columns sh None = []
+columns sh (Some Outputs) = one_of 0 sh.size ∷ one_of 1 sh.periods ∷ one_of 0 256 ∷ any ∷ []
+columns sh (Some System) = one_of 1 sh.periods ∷ any ∷ []
+columns sh (Some Lines) = one_of 0 sh.lines ∷ one_of 1 sh.periods ∷ any ∷ any ∷ []
+columns sh (Some Ramps) = one_of 0 sh.size ∷ one_of 1 sh.periods ∷ any ∷ any ∷ []
 
 -- field by field, from field n on: is it a number, and is that in range?
 abbrev pub field_questions : ℕ → List (ℤ → Bool) → List (List ℕ) → List (Bool × FieldFault)
@@ -102,29 +90,33 @@ number_questions sh (letter ∷ fs) = field_questions 2 (columns sh (group (lett
 
 -- ended, a known letter, as many fields as the letter has
 abbrev pub cut_questions : Line → List (Bool × RowFault)
-cut_questions l = (l.ended, Unended) ∷ (known (group (fields l)), UnknownLetter) ∷ ((length (fields l) == width (group (fields l))), FieldCount) ∷ []
+cut_questions l = (l.ended, Unended) ∷ (is_some (group (fields l)), UnknownLetter) ∷ ((length (fields l) == width (group (fields l))), FieldCount) ∷ []
 
--- one field read: a number that is in range, else the field's fault
+-- one field's fault: no number, or one that is out of range
+abbrev pub field_fault : (ℤ → Bool) → ℕ → List ℕ → Option FieldFault
+field_fault ok n text = first_no ((is_number text, Malformed n) ∷ (ok (number_in text), OutOfRange n) ∷ [])
+
+-- one field read: its number, else the field's fault
 abbrev pub field_answer : (ℤ → Bool) → ℕ → List ℕ → Result ℤ FieldFault
-field_answer ok n text = unless_no (first_no ((is_number text, Malformed n) ∷ (ok (number_in text), OutOfRange n) ∷ [])) (number_in text)
+field_answer ok n text = unless_no (field_fault ok n text) (number_in text)
 
 abbrev pub natural : ℤ → ℕ
 natural (pos n) = n
 natural (negsuc n) = 0
 
 abbrev pub natural_answer : (ℤ → Bool) → ℕ → List ℕ → Result ℕ FieldFault
-natural_answer ok n text = unless_no (first_no ((is_number text, Malformed n) ∷ (ok (number_in text), OutOfRange n) ∷ [])) (natural (number_in text))
+natural_answer ok n text = unless_no (field_fault ok n text) (natural (number_in text))
 
 -- the number in the field at index i, from 0
 abbrev pub number_at : List (List ℕ) → ℕ → ℤ
 number_at fs i = number_in (slice_index_or fs i [])
 
-abbrev pub entry_for : Group → List (List ℕ) → Entry
-entry_for Nothing fs = entry.System 0 (pos 0)
-entry_for Outputs fs = entry.Output (natural (number_at fs 1)) (natural (number_at fs 2)) (natural (number_at fs 3)) (number_at fs 4)
-entry_for System fs = entry.System (natural (number_at fs 1)) (number_at fs 2)
-entry_for Lines fs = entry.Line (natural (number_at fs 1)) (natural (number_at fs 2)) (number_at fs 3) (number_at fs 4)
-entry_for Ramps fs = entry.Ramp (natural (number_at fs 1)) (natural (number_at fs 2)) (number_at fs 3) (number_at fs 4)
+abbrev pub entry_for : Option Group → List (List ℕ) → Entry
+entry_for None fs = entry.System 0 (pos 0)
+entry_for (Some Outputs) fs = entry.Output (natural (number_at fs 1)) (natural (number_at fs 2)) (natural (number_at fs 3)) (number_at fs 4)
+entry_for (Some System) fs = entry.System (natural (number_at fs 1)) (number_at fs 2)
+entry_for (Some Lines) fs = entry.Line (natural (number_at fs 1)) (natural (number_at fs 2)) (number_at fs 3) (number_at fs 4)
+entry_for (Some Ramps) fs = entry.Ramp (natural (number_at fs 1)) (natural (number_at fs 2)) (number_at fs 3) (number_at fs 4)
 
 -- the numbers that the fields of a row tell
 abbrev pub entry_of : List (List ℕ) → Entry
@@ -134,10 +126,6 @@ entry_of fs = entry_for (group fs) fs
 abbrev pub numbers_answer : Shape → List (List ℕ) → Result Entry FieldFault
 numbers_answer sh fs = unless_no (first_no (number_questions sh fs)) (entry_of fs)
 
--- the same, of a row of a known letter, from its fields after the letter
-abbrev pub fields_answer : Shape → Group → List (List ℕ) → Result Entry FieldFault
-fields_answer sh g fs = unless_no (first_no (field_questions 2 (columns sh g) fs)) (entry_for g ([] ∷ fs))
-
 -- where a row stands in the order: its letter, its first number and its period; an S row has no first number
 abbrev pub place_of : Entry → Last
 place_of (entry.Output row period mark output) = record { group = Outputs; index = row; period = period }
@@ -145,32 +133,28 @@ place_of (entry.System period price) = record { group = System; index = 0; perio
 place_of (entry.Line line period upper lower) = record { group = Lines; index = line; period = period }
 place_of (entry.Ramp row period rise fall) = record { group = Ramps; index = row; period = period }
 
--- before the first row
-abbrev pub start : Last
-start = record { group = Nothing; index = 0; period = 0 }
-
 -- the letters in their order
 abbrev pub rank : Group → ℕ
-rank Nothing = 0
-rank Outputs = 1
-rank System = 2
-rank Lines = 3
-rank Ramps = 4
+rank Outputs = 0
+rank System = 1
+rank Lines = 2
+rank Ramps = 3
 
--- q comes after p: a later letter, or the same letter and first number, then period, rising
-abbrev pub follows : Last → Last → Bool
-follows p q =
+-- q comes after p: a later letter, or the same letter and first number, then period, rising; any row may come first
+abbrev pub follows : Option Last → Last → Bool
+follows None q = true
+follows (Some p) q =
     nat_lt (rank p.group) (rank q.group) || (rank p.group == rank q.group && (nat_lt p.index q.index || (p.index == q.index && nat_lt p.period q.period)))
 
 abbrev pub in_field : Bool × FieldFault → Bool × RowFault
 in_field q = (q.0, Field q.1)
 
--- all questions of a row that comes after `last`, in their order
-abbrev pub row_questions : Shape → Last → Line → List (Bool × RowFault)
+-- all questions of a row that comes after `last` (`None` where it is the first), in their order
+abbrev pub row_questions : Shape → Option Last → Line → List (Bool × RowFault)
 row_questions sh last l =
     cut_questions l ++ (map in_field (number_questions sh (fields l)) ++ ((follows last (place_of (entry_of (fields l))), OutOfOrder) ∷ []))
 
-unfoldable pub row_fault : Shape → Last → Line → Option RowFault
+unfoldable pub row_fault : Shape → Option Last → Line → Option RowFault
 row_fault sh last l = first_no (row_questions sh last l)
 
 -- the fields of a row that was handed on, its letter first

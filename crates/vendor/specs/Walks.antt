@@ -1,16 +1,16 @@
 -- What a reader has still before it. Assumes nothing.
-use Rattle.std.specs.Prelude.{◌≡◌, ℕ, ◌-◌, Bool, cond, List, [], ◌∷◌, length, take, drop, Some, None, Ok, Err, Option, Result, ◌==◌, nat_le}
+use Rattle.std.specs.Prelude.{◌≡◌, ℕ, ◌+◌, ◌-◌, ◌<◌, ◌≤◌, Bool, cond, List, [], ◌∷◌, length, take, drop, is_some, Some, None, Ok, Err, Option, Result, ◌==◌, nat_le}
 use Rattle.vendor.specs.declared.faults.RowFault.{RowFault}
 use Rattle.vendor.specs.declared.faults.RowFault.TheVariants.{UnknownLetter, FieldCount}
 use Rattle.vendor.specs.declared.reader.Reader.{Reader}
-use Rattle.std.specs.List.{AllByRecursion}
-use Rattle.vendor.specs.Pieces.{pieces, joined_by, Lacks}
+use Rattle.std.specs.List.{AllByRecursion, join_with_byte}
+use Rattle.vendor.specs.Pieces.{pieces, Lacks}
 use Rattle.vendor.specs.declared.rows.Row.{Row}
 use Rattle.vendor.specs.Files.{lines}
 use Rattle.vendor.specs.declared.rows.Shape.{Shape}
 use Rattle.vendor.specs.declared.rows.Last.{Last}
 use Rattle.vendor.specs.declared.rows.Entry.{Entry}
-use Rattle.vendor.specs.Rows.{Line, row_fault, entry_of, place_of, group, known, width, fields, fields_of, first_no, cut_questions}
+use Rattle.vendor.specs.Rows.{Line, row_fault, entry_of, place_of, group, width, fields, fields_of, first_no, unless_no, cut_questions}
 
 -- the fields of a row that ends at `end`, from `at` on: none past its end
 unfoldable pub fields_left : List ℕ → ℕ → ℕ → List (List ℕ)
@@ -19,13 +19,17 @@ fields_left file at end = cond (nat_le at end) (pieces 59 (take (end - at) (drop
 abbrev pub fields_ahead : Reader → ℕ → List (List ℕ)
 fields_ahead r end = fields_left r.file.now r.at end
 
+-- inside the row that ends at `end`: at one of its fields, or just past its end
+abbrev pub InRow : Reader → ℕ → Type 0
+InRow r end = (r.at ≤ end + 1) × (end < length r.file.now)
+
 -- only the position moved
 pub record Kept (before after : Reader) : Type 0 where
   pub file : after.file.now ≡ before.file.now
   pub last : after.last ≡ before.last
 
 abbrev pub letter_questions : List (List ℕ) → List (Bool × RowFault)
-letter_questions fs = (known (group fs), UnknownLetter) ∷ ((length fs == width (group fs)), FieldCount) ∷ []
+letter_questions fs = (is_some (group fs), UnknownLetter) ∷ ((length fs == width (group fs)), FieldCount) ∷ []
 
 abbrev pub rows_ahead : Reader → List Line
 rows_ahead r = lines (drop r.at r.file.now)
@@ -39,7 +43,7 @@ tail (x ∷ xs) = xs
 pub record RowOf (l : Line) (row : Row) : Type 0 where
   pub sound : first_no (cut_questions l) ≡ None
   pub parts : fields_of row ≡ fields l
-  pub whole : joined_by 59 (fields_of row) ≡ l.bytes
+  pub whole : join_with_byte 59 (fields_of row) ≡ l.bytes
   pub clean : AllByRecursion (Lacks 59) (fields_of row)
 
 abbrev pub RowHandedOn : Line → Option Row → Type 0
@@ -51,17 +55,13 @@ HandedOn [] r = r ≡ Ok None
 HandedOn (l ∷ ls) (Ok row) = RowHandedOn l row
 HandedOn (l ∷ ls) (Err e) = first_no (cut_questions l) ≡ Some e
 
-abbrev pub none_or : {A F : Type 0} → Option F → A → Result (Option A) F
-none_or None x = Ok (Some x)
-none_or (Some e) x = Err e
-
 -- the next row read: its numbers, or its fault
-abbrev pub entry_answer : Shape → Last → List Line → Result (Option Entry) RowFault
+abbrev pub entry_answer : Shape → Option Last → List Line → Result (Option Entry) RowFault
 entry_answer sh last [] = Ok None
-entry_answer sh last (l ∷ ls) = none_or (row_fault sh last l) (entry_of (fields l))
+entry_answer sh last (l ∷ ls) = unless_no (row_fault sh last l) (Some (entry_of (fields l)))
 
 -- the last row read: it moves on only to a row without fault
-abbrev pub last_after : Last → Result (Option Entry) RowFault → Last
+abbrev pub last_after : Option Last → Result (Option Entry) RowFault → Option Last
 last_after last (Ok None) = last
-last_after last (Ok (Some e)) = place_of e
+last_after last (Ok (Some e)) = Some (place_of e)
 last_after last (Err f) = last

@@ -11,4 +11,4 @@ pub use faults::{FieldFault, FileFault, RowFault};
 pub use numbers::parse;
 pub use reader::Reader;
 pub use rows::{Entry, Row, Shape};
-pub use tables::{Counts, Tables, read};
+pub use tables::{Cells, Counts, Tables, read};

@@ -1,20 +1,17 @@
 // Numbers as the format writes them: 1 to 8 digits, a minus where below zero, no spare zeros.
-ghost use Rattle.std.specs.Prelude.{◌≡◌, ◌<◌, length, drop, IfSome};
-ghost use Rattle.vendor.specs.Numbers.{number_written, magnitude_of, at_least_zero, below_zero};
+ghost use Rattle.std.specs.Prelude.{◌≡◌, ◌<◌, ◌≤◌, length, cond, Some, None, IfSome};
+ghost use Rattle.std.specs.Str.{all_ascii_digits};
+ghost use Rattle.std.specs.Str.Parse.{digits_value};
+ghost use Rattle.vendor.specs.Numbers.{number, magnitude_of, below_zero};
 
 const MOST_DIGITS: usize = 8;
 
-// The number that plain digits write, or `None` where they are not plain.
-fn magnitude(digits: &[u8]) -> Option<u32>
-    ensures value { result ≡ magnitude_of digits.now }
+// The number that digits write, or `None` where a byte is no digit.
+fn value(digits: &[u8]) -> Option<u32>
+    requires { length digits.now ≤ 8 }
+    ensures value { result ≡ cond (all_ascii_digits digits.now) (Some (digits_value 10 digits.now)) None }
     ensures bound { IfSome result (λ v. v < 100000000) }
 {
-    if digits.is_empty() || digits.len() > MOST_DIGITS {
-        return None;
-    }
-    if digits[0] == b'0' && digits.len() > 1 {
-        return None;
-    }
     let mut value: u32 = 0;
     for b in digits {
         if !b.is_ascii_digit() {
@@ -25,44 +22,33 @@ fn magnitude(digits: &[u8]) -> Option<u32>
     Some(value)
 }
 
-// A number without a minus.
-fn at_least_zero(value: Option<u32>) -> Option<i32>
-    requires { IfSome value (λ v. v < 100000000) }
-    ensures { result ≡ at_least_zero value }
+// The number that plain digits write, or `None` where they are not plain.
+fn magnitude(digits: &[u8]) -> Option<u32>
+    ensures value { result ≡ magnitude_of digits.now }
+    ensures bound { IfSome result (λ v. v < 100000000) }
 {
-    match value {
-        Some(value) => Some(value as i32),
-        None => None,
+    match digits {
+        [] | [b'0', _, ..] => None,
+        _ if digits.len() > MOST_DIGITS => None,
+        _ => value(digits),
     }
 }
 
 // A number behind a minus: zero is not written so.
-fn below_zero(value: Option<u32>) -> Option<i32>
-    requires { IfSome value (λ v. v < 100000000) }
-    ensures { result ≡ below_zero value }
+fn negated(value: u32) -> Option<i32>
+    requires { value < 100000000 }
+    ensures { result ≡ below_zero (Some value) }
 {
-    match value {
-        Some(0) => None,
-        Some(value) => Some(-(value as i32)),
-        None => None,
-    }
-}
-
-// What stands behind a minus.
-fn after_minus(text: &[u8]) -> &[u8]
-    requires { 0 < length text.now }
-    ensures { result.now ≡ drop 1 text.now }
-{
-    &text[1..]
+    (value != 0).then(|| -(value as i32))
 }
 
 // The number that a field writes, or `None` where it writes none.
+#[tactic(auto, unfolding(crate::specs::Numbers::number))]
 pub fn parse(text: &[u8]) -> Option<i32>
-    ensures { result ≡ number_written text.now }
+    ensures { result ≡ number text.now }
 {
-    if text.is_empty() || text[0] != b'-' {
-        at_least_zero(magnitude(text))
-    } else {
-        below_zero(magnitude(after_minus(text)))
+    match text {
+        [b'-', digits @ ..] => magnitude(digits).and_then(negated),
+        _ => magnitude(text).map(|value| value as i32),
     }
 }

@@ -6,11 +6,11 @@ ghost use Rattle.std.specs.Prelude.{◌≤◌, length};
 
 use crate::rows::Last;
 
-// `at` is where the next row begins, and inside a row where the next field does; `last` is the last row read.
+// `at` is where the next row begins, and inside a row where the next field does; `last` is the last row read, if any was.
 #[derive(Drop)]
 pub struct Reader<'a> {
     file: &'a [u8],
     at: usize,
-    last: Last,
+    last: Option<Last>,
     ghost inside: { at ≤ length file.now },
 }

@@ -1,14 +1,16 @@
 // The lent tables that a file fills.
+mod cells;
 mod reading;
 
 ghost use Rattle.std.specs.Prelude.{◌≡◌, ◌+◌, ◌*◌, ◌<◌, ◌≤◌, length, replicate, pos, ◌==◌};
-ghost use Rattle.vendor.specs.Files.{RightLengths, contents, sized, one_more};
+ghost use Rattle.vendor.specs.Files.{RightLengths, cell, contents, sized, one_more};
 ghost use Rattle.vendor.specs.Fills.{SamePlaces, cleared, written, NamesACell, Room};
 
 use crate::rows::{Entry, Shape};
+pub use cells::Cells;
 pub use reading::read;
 
-// Cells lie item by item and then by period: rows by periods for marks, outputs, rise and fall prices,
+// A struct of seven slices by a rule of the project. Cells lie item by item and then by period: rows by periods for marks, outputs, rise and fall prices,
 // lines by periods for upper and lower prices, and one system price for each period.
 #[derive(Drop)]
 pub struct Tables<'a> {
@@ -22,7 +24,7 @@ pub struct Tables<'a> {
 }
 
 // How many rows a file has of each letter: R, S, L and G.
-#[derive(Clone, Copy)]
+#[derive(Clone, Copy, PartialEq, Eq, Debug, Default)]
 pub struct Counts {
     pub outputs: usize,
     pub system: usize,
@@ -36,9 +38,16 @@ const MOST_ROWS: usize = 32;
 fn exact(len: usize, items: usize, periods: usize) -> bool
     ensures { result ≡ (len == items * periods) }
 {
-    match items.checked_mul(periods) {
-        Some(cells) => len == cells,
-        None => false,
+    items.checked_mul(periods) == Some(len)
+}
+
+impl Shape {
+    // The cell of an item in a period.
+    fn cell(&self, item: usize, period: usize) -> usize
+        requires { (1 ≤ period) × (cell self.now item period < 18446744073709551616) }
+        ensures { result ≡ cell self.now item period }
+    {
+        item * self.periods + (period - 1)
     }
 }
 
@@ -77,29 +86,27 @@ impl Tables<'_> {
         ensures held { contents self.new ≡ written shape.now entry.now (contents self.old) }
         ensures places { SamePlaces self.old self.new }
     {
-        match entry {
+        match *entry {
             Entry::Output {
                 row,
                 period,
                 mark,
                 output,
             } => {
-                let cell = *row * shape.periods + (*period - 1);
-                self.marks[cell] = *mark;
-                self.outputs[cell] = *output;
+                let cell = shape.cell(row, period);
+                self.marks[cell] = mark;
+                self.outputs[cell] = output;
             }
-            Entry::System { period, price } => {
-                self.system[*period - 1] = *price;
-            }
+            Entry::System { period, price } => self.system[period - 1] = price,
             Entry::Line {
                 line,
                 period,
                 upper,
                 lower,
             } => {
-                let cell = *line * shape.periods + (*period - 1);
-                self.upper[cell] = *upper;
-                self.lower[cell] = *lower;
+                let cell = shape.cell(line, period);
+                self.upper[cell] = upper;
+                self.lower[cell] = lower;
             }
             Entry::Ramp {
                 row,
@@ -107,9 +114,9 @@ impl Tables<'_> {
                 rise,
                 fall,
             } => {
-                let cell = *row * shape.periods + (*period - 1);
-                self.rise[cell] = *rise;
-                self.fall[cell] = *fall;
+                let cell = shape.cell(row, period);
+                self.rise[cell] = rise;
+                self.fall[cell] = fall;
             }
         }
     }

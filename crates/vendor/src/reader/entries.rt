@@ -12,49 +12,42 @@ impl Last {
     fn rises_to(&self, index: usize, period: usize) -> bool
         ensures { result ≡ (nat_lt self.now.index index || (self.now.index == index && nat_lt self.now.period period)) }
     {
-        self.index < index || (self.index == index && self.period < period)
+        (self.index, self.period) < (index, period)
     }
 }
 
 impl Reader<'_> {
     // Whether the row may come next: letters in the order R, S, L, G, and rising within a letter.
+    // The state is matched in place with the row, and no order of letters is derived: a rule of the project.
     fn may_follow(&self, entry: &Entry) -> bool
         ensures { result ≡ follows self.now.last (place_of entry.now) }
     {
-        match (self.last.group, entry) {
-            (Group::Nothing, _) => true,
-            (Group::Outputs, Entry::Output { row, period, .. }) => self
-                .last
-                .rises_to(*row, *period),
+        let Some(last) = self.last else {
+            return true;
+        };
+        match (last.group, *entry) {
+            (Group::Outputs, Entry::Output { row, period, .. }) => last.rises_to(row, period),
+            (Group::System, Entry::System { period, .. }) => last.rises_to(0, period),
+            (Group::Lines, Entry::Line { line, period, .. }) => last.rises_to(line, period),
+            (Group::Ramps, Entry::Ramp { row, period, .. }) => last.rises_to(row, period),
             (Group::Outputs, _) => true,
-            (Group::System, Entry::Output { .. }) => false,
-            (Group::System, Entry::System { period, .. }) => self.last.rises_to(0, *period),
-            (Group::System, _) => true,
-            (Group::Lines, Entry::Line { line, period, .. }) => self.last.rises_to(*line, *period),
+            (Group::System, Entry::Line { .. } | Entry::Ramp { .. }) => true,
             (Group::Lines, Entry::Ramp { .. }) => true,
-            (Group::Lines, _) => false,
-            (Group::Ramps, Entry::Ramp { row, period, .. }) => self.last.rises_to(*row, *period),
-            (Group::Ramps, _) => false,
+            _ => false,
         }
     }
 
     // The next row's numbers, judged beside the last row.
+    #[tactic(auto, using(crate::proofs::Questions::cut_answer, crate::proofs::Questions::number_answer, crate::proofs::Questions::next_answer))]
     fn judged(&mut self, shape: &Shape) -> Result<Option<Entry>, RowFault>
         ensures answer { result ≡ entry_answer shape.now self.old.last (rows_ahead self.old) }
         ensures rows { rows_ahead self.new ≡ tail (rows_ahead self.old) }
         ensures last { self.new.last ≡ self.old.last }
     {
-        let next = match self.next_row() {
-            Ok(next) => next,
-            Err(fault) => return Err(fault),
-        };
-        let Some(row) = next else {
+        let Some(row) = self.next_row()? else {
             return Ok(None);
         };
-        let entry = match row.numbers(shape) {
-            Ok(entry) => entry,
-            Err(fault) => return Err(RowFault::Field(fault)),
-        };
+        let entry = row.numbers(shape)?;
         if self.may_follow(&entry) {
             Ok(Some(entry))
         } else {
@@ -68,10 +61,10 @@ impl Reader<'_> {
         ensures rows { rows_ahead self.new ≡ tail (rows_ahead self.old) }
         ensures last { self.new.last ≡ last_after self.old.last result }
     {
-        let next = self.judged(shape);
-        if let Ok(Some(entry)) = next {
-            self.last = entry.place();
+        let next = self.judged(shape)?;
+        if let Some(entry) = &next {
+            self.last = Some(Last::from(entry));
         }
-        next
+        Ok(next)
     }
 }

@@ -1,12 +1,13 @@
 // The rows of a file, which end in byte 10, and their fields, which stand between semicolons.
-ghost use Rattle.std.specs.Prelude.{◌≡◌, ℕ, ◌+◌, ◌<◌, ◌≤◌, [], ◌∷◌, length, drop, Some, MatchOption, MatchResult, ◌≢◌, slice_index};
+ghost use Rattle.std.specs.Prelude.{◌≡◌, ℕ, ◌+◌, ◌<◌, ◌≤◌, [], ◌∷◌, ◌++◌, length, drop, Some, MatchOption, MatchResult, ◌≢◌, slice_index};
+ghost use Rattle.vendor.specs.declared.faults.RowFault.TheVariants.{FieldCount};
 ghost use Rattle.vendor.specs.Files.{lines};
-ghost use Rattle.vendor.specs.Rows.{fields_of, first_no, start};
-ghost use Rattle.vendor.specs.Walks.{Kept, fields_ahead, letter_questions, rows_ahead, tail, HandedOn};
+ghost use Rattle.vendor.specs.Rows.{fields_of, first_no};
+ghost use Rattle.vendor.specs.Walks.{InRow, Kept, fields_ahead, letter_questions, rows_ahead, tail, HandedOn};
 
 use crate::faults::RowFault;
 use crate::reader::Reader;
-use crate::rows::{Group, Last, Row};
+use crate::rows::Row;
 
 const ROW_END: u8 = b'\n';
 
@@ -18,67 +19,68 @@ pub fn find(bytes: &[u8], byte: u8) -> usize
     ensures before { (k : ℕ) → k < result → slice_index bytes.now k ≢ byte }
     ensures found { result < length bytes.now → slice_index bytes.now result ≡ byte }
 {
-    for (i, b) in bytes.iter().enumerate() {
-        if *b == byte {
-            return i;
-        }
-    }
-    bytes.len()
+    bytes.iter().position(|b| *b == byte).unwrap_or(bytes.len())
 }
 
 impl<'a> Reader<'a> {
     // The next field of the row that ends at `end`, or `None` past its last.
+    #[tactic(auto, using(crate::proofs::Cuts::none_left, crate::proofs::Cuts::next_left))]
     fn next_field(&mut self, end: usize) -> Option<&'a [u8]>
-        requires { (self.old.at ≤ end + 1) × (end < length self.old.file.now) }
+        requires { InRow self.old end }
         ensures kept { Kept self.old self.new }
-        ensures within { self.new.at ≤ end + 1 }
+        ensures within { InRow self.new end }
         ensures cases { MatchOption result (fields_ahead self.old end ≡ []) (λ f. fields_ahead self.old end ≡ f.now ∷ fields_ahead self.new end) }
     {
-        let at = self.at;
-        if at > end {
+        if self.at > end {
             return None;
         }
-        let row = &self.file[at..end];
+        let row = &self.file[self.at..end];
         let n = find(row, SEMICOLON);
-        self.at = at + n + 1;
-        Some(&row[0..n])
+        self.at += n + 1;
+        Some(&row[..n])
     }
 
-    // The next two fields, where these are all that is left.
-    fn last_two(&mut self, end: usize) -> Option<(&'a [u8], &'a [u8])>
-        requires { (self.old.at ≤ end + 1) × (end < length self.old.file.now) }
+    // The next field, or the fault of a row that has none left.
+    fn field(&mut self, end: usize) -> Result<&'a [u8], RowFault>
+        requires { InRow self.old end }
         ensures kept { Kept self.old self.new }
-        ensures within { self.new.at ≤ end + 1 }
-        ensures cases { MatchOption result (length (fields_ahead self.old end) ≢ 2) (λ f. fields_ahead self.old end ≡ f.0.now ∷ f.1.now ∷ []) }
+        ensures within { InRow self.new end }
+        ensures cases { MatchResult result (λ f. fields_ahead self.old end ≡ f.now ∷ fields_ahead self.new end) (λ e. (fields_ahead self.old end ≡ []) × (e ≡ FieldCount)) }
     {
-        let Some(a) = self.next_field(end) else {
-            return None;
-        };
-        let Some(b) = self.next_field(end) else {
-            return None;
-        };
-        match self.next_field(end) {
-            Some(_) => None,
-            None => Some((a, b)),
-        }
+        self.next_field(end).ok_or(RowFault::FieldCount)
     }
 
-    // The next four fields, where these are all that is left.
-    fn last_four(&mut self, end: usize) -> Option<(&'a [u8], &'a [u8], &'a [u8], &'a [u8])>
-        requires { (self.old.at ≤ end + 1) × (end < length self.old.file.now) }
+    // The fields of a row with this letter, taken one at a time.
+    fn kind(&mut self, letter: u8, end: usize) -> Result<Row<'a>, RowFault>
+        requires { InRow self.old end }
         ensures kept { Kept self.old self.new }
-        ensures within { self.new.at ≤ end + 1 }
-        ensures cases { MatchOption result (length (fields_ahead self.old end) ≢ 4) (λ f. fields_ahead self.old end ≡ f.0.now ∷ f.1.now ∷ f.2.now ∷ f.3.now ∷ []) }
+        ensures within { InRow self.new end }
+        ensures cases { MatchResult result (λ row. (letter ∷ []) ∷ fields_ahead self.old end ≡ fields_of row ++ fields_ahead self.new end) (λ e. first_no (letter_questions ((letter ∷ []) ∷ fields_ahead self.old end)) ≡ Some e) }
     {
-        let Some(a) = self.next_field(end) else {
-            return None;
-        };
-        let Some(b) = self.next_field(end) else {
-            return None;
-        };
-        match self.last_two(end) {
-            Some((c, d)) => Some((a, b, c, d)),
-            None => None,
+        match char::from(letter) {
+            'R' => Ok(Row::Output {
+                row: self.field(end)?,
+                period: self.field(end)?,
+                mark: self.field(end)?,
+                output: self.field(end)?,
+            }),
+            'S' => Ok(Row::System {
+                period: self.field(end)?,
+                price: self.field(end)?,
+            }),
+            'L' => Ok(Row::Line {
+                line: self.field(end)?,
+                period: self.field(end)?,
+                upper: self.field(end)?,
+                lower: self.field(end)?,
+            }),
+            'G' => Ok(Row::Ramp {
+                row: self.field(end)?,
+                period: self.field(end)?,
+                rise: self.field(end)?,
+                fall: self.field(end)?,
+            }),
+            _ => Err(RowFault::UnknownLetter),
         }
     }
 
@@ -88,83 +90,43 @@ impl<'a> Reader<'a> {
         ensures kept { Kept self.old self.new }
         ensures cases { MatchResult result (λ row. fields_of row ≡ fields_ahead self.old end) (λ e. first_no (letter_questions (fields_ahead self.old end)) ≡ Some e) }
     {
-        let Some(letter) = self.next_field(end) else {
+        let Some([letter]) = self.next_field(end) else {
             return Err(RowFault::UnknownLetter);
         };
-        if letter.len() != 1 {
-            return Err(RowFault::UnknownLetter);
-        }
-        match char::from(letter[0]) {
-            'R' => match self.last_four(end) {
-                Some((row, period, mark, output)) => Ok(Row::Output {
-                    row,
-                    period,
-                    mark,
-                    output,
-                }),
-                None => Err(RowFault::FieldCount),
-            },
-            'S' => match self.last_two(end) {
-                Some((period, price)) => Ok(Row::System { period, price }),
-                None => Err(RowFault::FieldCount),
-            },
-            'L' => match self.last_four(end) {
-                Some((line, period, upper, lower)) => Ok(Row::Line {
-                    line,
-                    period,
-                    upper,
-                    lower,
-                }),
-                None => Err(RowFault::FieldCount),
-            },
-            'G' => match self.last_four(end) {
-                Some((row, period, rise, fall)) => Ok(Row::Ramp {
-                    row,
-                    period,
-                    rise,
-                    fall,
-                }),
-                None => Err(RowFault::FieldCount),
-            },
-            _ => Err(RowFault::UnknownLetter),
+        let row = self.kind(*letter, end)?;
+        match self.next_field(end) {
+            Some(_) => Err(RowFault::FieldCount),
+            None => Ok(row),
         }
     }
 
     pub fn new(file: &'a [u8]) -> Reader<'a>
         ensures rows { rows_ahead result ≡ lines file.now }
-        ensures last { result.last ≡ start }
+        ensures last { result.last ≡ None }
     {
         Reader {
             file,
             at: 0,
-            last: Last {
-                group: Group::Nothing,
-                index: 0,
-                period: 0,
-            },
+            last: None,
         }
     }
 
-    // The row that begins here, or `None` past the last, and where the next one begins.
+    // The row that begins here, or `None` past the last, and where the next one begins. The reader moves on in `next_row`.
     fn row_here(&mut self) -> (Result<Option<Row<'a>>, RowFault>, usize)
         ensures answer { HandedOn (rows_ahead self.old) result.0 }
         ensures within { result.1 ≤ length self.old.file.now }
         ensures rows { lines (drop result.1 self.old.file.now) ≡ tail (rows_ahead self.old) }
         ensures kept { Kept self.old self.new }
     {
-        let at = self.at;
         let len = self.file.len();
-        if at == len {
+        if self.at == len {
             return (Ok(None), len);
         }
-        let end = at + find(&self.file[at..len], ROW_END);
+        let end = self.at + find(&self.file[self.at..], ROW_END);
         if end == len {
             return (Err(RowFault::Unended), len);
         }
-        match self.cut(end) {
-            Ok(row) => (Ok(Some(row)), end + 1),
-            Err(e) => (Err(e), end + 1),
-        }
+        (self.cut(end).map(Some), end + 1)
     }
 
     // The next row as one of the four kinds, or `None` past the last; a faulty row is passed too.

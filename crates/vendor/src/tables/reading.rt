@@ -14,24 +14,16 @@ fn check(file: &[u8], shape: &Shape) -> Result<Counts, FileFault>
     ensures { result ≡ rows_answer shape.now file.now }
 {
     let mut reader = Reader::new(file);
-    let mut counts = Counts {
-        outputs: 0,
-        system: 0,
-        lines: 0,
-        ramps: 0,
-    };
+    let mut counts = Counts::default();
     let mut row = 1;
-    loop {
-        let next = match reader.next_entry(shape) {
-            Ok(next) => next,
-            Err(fault) => return Err(FileFault::Row { row, fault }),
-        };
-        let Some(entry) = next else {
-            return Ok(counts);
-        };
+    while let Some(entry) = reader
+        .next_entry(shape)
+        .map_err(|fault| FileFault::Row { row, fault })?
+    {
         counts.add(&entry);
         row += 1;
     }
+    Ok(counts)
 }
 
 // The tables of a file without fault: what its rows tell, and zero in every other cell.
@@ -42,18 +34,13 @@ fn fill(file: &[u8], shape: &Shape, tables: &mut Tables)
 {
     tables.clear();
     let mut reader = Reader::new(file);
-    loop {
-        let Ok(next) = reader.next_entry(shape) else {
-            return;
-        };
-        let Some(entry) = next else {
-            return;
-        };
+    while let Ok(Some(entry)) = reader.next_entry(shape) {
         tables.write(shape, &entry);
     }
 }
 
 // Whether the file can be read into the tables: its rows by letter, or its fault. Nothing is written.
+#[tactic(auto, using(crate::proofs::Outcome::unfit_answer, crate::proofs::Outcome::unfit_after, crate::proofs::Outcome::fit_answer, crate::proofs::Outcome::means, crate::proofs::Outcome::words_mean))]
 fn judge(file: &[u8], shape: &Shape, tables: &Tables) -> Result<Counts, FileFault>
     ensures meaning { (after : Contents) → after ≡ tables_after shape.now file.now (contents tables.now) → Answered shape.now file.now (contents tables.now) result after }
     ensures words { WordsMean }
@@ -76,9 +63,7 @@ pub fn read(file: &[u8], shape: &Shape, tables: &mut Tables) -> Result<Counts, F
     ensures held { contents tables.new ≡ tables_after shape.now file.now (contents tables.old) }
     ensures places { SamePlaces tables.old tables.new }
 {
-    let judged = judge(file, shape, tables);
-    if judged.is_ok() {
-        fill(file, shape, tables);
-    }
-    judged
+    let counts = judge(file, shape, tables)?;
+    fill(file, shape, tables);
+    Ok(counts)
 }

@@ -5,8 +5,8 @@ use Rattle.vendor.specs.Walks.{rows_ahead}
 use Rattle.vendor.proofs.Filling.{Writing}
 use Rattle.vendor.proofs.tables.reading.fill.Given as goal
 
-abbrev pub invariant-loop-next : goal.invariant-loop-next
-invariant-loop-next l = Writing l.shape l.file l.reader.last (rows_ahead l.reader) (contents l.tables) × SamePlaces l.initial.tables l.tables
+abbrev pub invariant-loop-entry : goal.invariant-loop-entry
+invariant-loop-entry l = Writing l.shape l.file l.reader.last (rows_ahead l.reader) (contents l.tables) × SamePlaces l.initial.tables l.tables
 
-abbrev pub decreases-loop-next : goal.decreases-loop-next
-decreases-loop-next l = length (rows_ahead l.reader)
+abbrev pub decreases-loop-entry : goal.decreases-loop-entry
+decreases-loop-entry l = length (rows_ahead l.reader)

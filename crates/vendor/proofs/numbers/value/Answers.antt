@@ -1,10 +1,10 @@
-use Rattle.std.proofs.Common.{◌≡◌, ◌<◌, length, get_or, Some, sym, ap, ◌∙◌, ⊎_elim, arith, take_all, below_more}
-use Rattle.std.proofs.lemmas.Bool.{cond-true, cond-false, eqb-false}
+use Rattle.std.proofs.Common.{◌≡◌, ◌<◌, length, get_or, Some, sym, ap, ◌∙◌, arith, take_all, below_more}
+use Rattle.std.proofs.lemmas.Bool.{cond-true, cond-false}
 use Rattle.std.specs.Str.Parse.{digits_value}
 use Rattle.std.specs.Int.{IsInRange}
-use Rattle.vendor.proofs.Decimals.{DigitsBelow, one_more, short, not_plain_at, is_plain, plain_value, Short, is_digit}
-use Rattle.vendor.proofs.numbers.magnitude.Goals as goal
-use Rattle.vendor.proofs.numbers.magnitude.Goals.{Else-not-is_ascii_digit}
+use Rattle.vendor.proofs.Decimals.{DigitsBelow, one_more, short, eight, no_digits_at, digits_told, is_digit}
+use Rattle.vendor.proofs.numbers.value.Goals as goal
+use Rattle.vendor.proofs.numbers.value.Goals.{Else-not-is_ascii_digit}
 
 -- the number so far has at most seven digits
 so_far : (c : Else-not-is_ascii_digit) → c.loop-b.value < 10000000
@@ -15,7 +15,7 @@ digit c = is_digit _ (sym c.if-not-is_ascii_digit.ensures.value)
 
 pub returns-then-not-is_ascii_digit : goal.returns-then-not-is_ascii_digit
 returns-then-not-is_ascii_digit c =
-    let none = not_plain_at c.args.digits.now c.loop-b.b-index c.loop-b-test.true c.if-not-is_ascii_digit.ensures.value in
+    let none = no_digits_at c.args.digits.now c.loop-b.b-index c.loop-b-test.true c.if-not-is_ascii_digit.ensures.value in
     record { value = sym (cond-false _ _ _ none); bound = tt }
 
 pub overflow_mul-value : goal.overflow_mul-value
@@ -35,12 +35,7 @@ returns c =
     let all : c.loop-b.b-index ≡ length ds = omega arith in
     let whole : digits_value 10 ds ≡ c.loop-b.value = ap (digits_value 10) (sym (take_all c.loop-b.b-index ds (omega arith))) ∙ sym c.loop-b.invariant.1 in
     let each : DigitsBelow ds (length ds) = λ i lt. c.loop-b.invariant.0 i (omega arith) in
-    let s : Short ds = record {
-      some = omega (arith, eqb-false (length ds) 0 (sym c.if-is_empty.ensures));
-      few = omega arith;
-      spare = λ z. ⊎_elim (λ h. h.1) (λ h. absurd (h z)) c.else-digits-eq48.either;
-    } in
     record {
-      value = ap Some (sym whole) ∙ sym (cond-true _ _ _ (is_plain ds s each));
-      bound = omega (arith, plain_value ds (record { short = s; each = each }));
+      value = ap Some (sym whole) ∙ sym (cond-true _ _ _ (digits_told ds each));
+      bound = omega (arith, eight ds each c.requires);
     }
