@@ -1,5 +1,6 @@
 // Two fleets as one: the first's rows, and then the second's.
-ghost use Rattle.kinds.specs.Joined.{joined, meaning};
+ghost use Rattle.market.specs.Meanings.{meaning};
+ghost use Rattle.kinds.specs.Joined.{joined};
 ghost use Rattle.kinds.proofs.Joining.{joined_shows};
 
 use kinds::MOST_ROWS;

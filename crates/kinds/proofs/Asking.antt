@@ -3,7 +3,7 @@ use Rattle.std.proofs.Common.{◌≡◌, ℕ, ◌<◌, Bool, true, false, cond, 
 use Rattle.std.proofs.lemmas.Bool.{and_parts, ltb-true, eqb-true}
 use Rattle.measures.specs.Amounts.{grains}
 use Rattle.measures.specs.declared.Grains.{Grains}
-use Rattle.market.specs.declared.refusal.Broken.{Broken}
+use Rattle.market.specs.declared.broken.Broken.{Broken}
 use Rattle.market.specs.Fleet.{Meaning, RowPrices, Priced, broken, unless, row_fault, prices_listed, prices_asked, floor_answer}
 use Rattle.market.proofs.Pricing.{Listed, priced_so}
 

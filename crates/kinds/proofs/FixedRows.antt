@@ -6,7 +6,7 @@ use Rattle.market.specs.Fleet.{Schedule, Facts, Reserved}
 use Rattle.market.specs.Clearing.{part}
 use Rattle.market.specs.Scans.{Within, InBefore, at}
 use Rattle.market.specs.Totals.{total}
-use Rattle.market.specs.declared.refusal.Broken.{Broken}
+use Rattle.market.specs.declared.broken.Broken.{Broken}
 use Rattle.market.proofs.Cells.{place_below, length_part, at_part}
 use Rattle.market.proofs.Ints.{times_within}
 use Rattle.market.proofs.Scanning.{decides_in}

@@ -4,7 +4,7 @@ use Rattle.measures.specs.declared.Grains.{Grains}
 use Rattle.market.specs.Fleet.{Schedule}
 use Rattle.market.specs.Scans.{at}
 use Rattle.market.specs.Totals.{total}
-use Rattle.market.specs.declared.refusal.Broken.{Broken}
+use Rattle.market.specs.declared.broken.Broken.{Broken}
 use Rattle.kinds.specs.declared.thermal_unit.ThermalUnit.{ThermalUnit}
 use Rattle.kinds.specs.Thermal.{rule_10, rule_11, rule_12, rule_13, rule_14, rule_15, asked, first_broken, rule, cost_in, verdict, mark_in, mark_before, lasted_before, output_before}
 use Rattle.kinds.specs.Verdicts.{LawfulAt, BreaksFirst, breaks, Tells}

@@ -6,7 +6,7 @@ use Rattle.measures.specs.declared.Grains.{Grains}
 use Rattle.market.specs.Fleet.{Schedule, RowPrices, Facts, Reserved}
 use Rattle.market.specs.Scans.{Within, UpTo, In, at, in_test}
 use Rattle.market.specs.Totals.{total}
-use Rattle.market.specs.declared.refusal.Broken.{Broken}
+use Rattle.market.specs.declared.broken.Broken.{Broken}
 use Rattle.market.proofs.Cells.{length_part}
 use Rattle.market.proofs.Scanning.{decides_in}
 use Rattle.market.proofs.Totals.{total_mono, total_sub, total_within}

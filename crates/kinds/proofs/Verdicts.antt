@@ -4,7 +4,7 @@ use Rattle.std.proofs.lemmas.Bool.{cases_order}
 use Rattle.measures.specs.Amounts.{grains}
 use Rattle.measures.specs.declared.Grains.{Grains}
 use Rattle.market.specs.Fleet.{broken}
-use Rattle.market.specs.declared.refusal.Broken.{Broken}
+use Rattle.market.specs.declared.broken.Broken.{Broken}
 use Rattle.market.proofs.Totals.{total_more}
 use Rattle.kinds.specs.Verdicts.{and_then, verdict_over, Keeps, LawfulAt, BreaksFirst, breaks, Tells, Judged}
 

@@ -6,7 +6,7 @@ use Rattle.measures.specs.declared.Grains.{Grains}
 use Rattle.market.specs.Fleet.{Meaning, Schedule, RowPrices}
 use Rattle.market.specs.Scans.{at, In, UpTo, in_test, all_below}
 use Rattle.market.specs.Totals.{total}
-use Rattle.market.specs.declared.refusal.Broken.{Broken}
+use Rattle.market.specs.declared.broken.Broken.{Broken}
 use Rattle.kinds.specs.declared.thermal_unit.ThermalUnit.{ThermalUnit}
 use Rattle.kinds.specs.Curves.{lowest, highest, running_cost, net_cost, Made}
 use Rattle.kinds.specs.Leasts.{least_over}

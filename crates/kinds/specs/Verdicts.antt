@@ -4,7 +4,7 @@ use Rattle.measures.specs.Amounts.{grains}
 use Rattle.measures.specs.declared.Grains.{Grains}
 use Rattle.market.specs.Fleet.{broken}
 use Rattle.market.specs.Totals.{total}
-use Rattle.market.specs.declared.refusal.Broken.{Broken}
+use Rattle.market.specs.declared.broken.Broken.{Broken}
 
 -- what a period adds to the verdict on those before it: the first rule that it breaks, or its cost
 abbrev pub and_then : Result Grains Broken → Option ℕ → ℤ → ℕ → Result Grains Broken

@@ -4,7 +4,7 @@ use Rattle.std.proofs.lemmas.Int.{ints, to_z-of_z}
 use Rattle.std.proofs.lemmas.Result.{err_from_is_err_and}
 use Rattle.measures.specs.Amounts.{grains}
 use Rattle.measures.specs.declared.Grains.{Grains}
-use Rattle.market.specs.declared.refusal.Broken.{Broken}
+use Rattle.market.specs.declared.broken.Broken.{Broken}
 use Rattle.market.specs.Fleet.{broken}
 use Rattle.market.specs.Scans.{Within, at}
 use Rattle.market.proofs.Totals.{total_within}

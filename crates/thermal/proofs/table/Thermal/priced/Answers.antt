@@ -1,7 +1,7 @@
 use Rattle.std.proofs.Common.{◌≡◌, ℕ, Bool, true, false, cond, eqb, ltb, length, Some, None, Ok, Err, Option, refl, sym, ◌∙◌, arith}
 use Rattle.std.proofs.lemmas.Bool.{and_parts, eqb-true}
 use Rattle.market.specs.Fleet.{row_prices_of, row_fault, unless, prices_listed}
-use Rattle.market.specs.declared.refusal.Broken.{Broken}
+use Rattle.market.specs.declared.broken.Broken.{Broken}
 use Rattle.market.proofs.Pricing.{Listed, priced_so}
 use Rattle.kinds.specs.Thermal.{units}
 use Rattle.kinds.specs.ThermalTables.{table}
