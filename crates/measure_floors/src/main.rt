@@ -3,17 +3,14 @@
 
 use anyhow::anyhow;
 use kinds::{CurveNumbers, ThermalUnit};
-use market::Fleet;
+use market::{Fleet, RowPrices};
 use measures::Grains;
 use std::alloc::Global;
+use std::array;
 use std::time::Instant;
 use thermal::Thermal;
 
 const PERIODS: usize = 96;
-
-const ENDS: usize = 11;
-
-const SEGMENTS: usize = 10;
 
 const FLOORS: u32 = 20_000;
 
@@ -25,18 +22,10 @@ fn reread(heap: Global, number: u16) -> anyhow::Result<u16> {
 
 // Segment i goes from i + 1 to i + 2 widths, at 10 + 5 i times as many fen as a width has tenths of a megawatt.
 fn curve(segments: u16, width: u16) -> CurveNumbers {
-    let mut ends = [0i32; ENDS];
-    for place in 0..ENDS {
-        ends[place] = i32::from(width).saturating_mul(place as i32 + 1);
-    }
-    let mut prices = [0i32; SEGMENTS];
-    for place in 0..SEGMENTS {
-        prices[place] = i32::from(width).saturating_mul(place as i32 * 5 + 10);
-    }
     CurveNumbers {
         segments: usize::from(segments),
-        ends,
-        prices,
+        ends: array::from_fn(|place| i32::from(width).saturating_mul(place as i32 + 1)),
+        prices: array::from_fn(|place| i32::from(width).saturating_mul(place as i32 * 5 + 10)),
     }
 }
 
@@ -70,7 +59,12 @@ fn sum_of_floors(table: &Thermal<'_>) -> i64 {
     let mut sum = 0i64;
     for turn in 0..FLOORS {
         net[turn as usize % PERIODS] = net_price(turn);
-        if let Ok(Grains(floor)) = table.floor(0, &net, &[1_000; PERIODS], &[2_000; PERIODS]) {
+        let prices = RowPrices {
+            net: &net,
+            rise: &[1_000; PERIODS],
+            fall: &[2_000; PERIODS],
+        };
+        if let Ok(Grains(floor)) = table.floor(0, &prices) {
             sum = sum.wrapping_add(floor);
         }
     }
@@ -81,9 +75,9 @@ fn time_floors(rt: &HostRuntime) -> anyhow::Result<()> {
     let heap = rt.alloc();
     let units = [unit(reread(heap, 10)?, reread(heap, 1_000)?, reread(heap, 96)?)];
     let mut table = Thermal::none();
-    if let Err(_) = table.make(PERIODS, &units) {
-        return Err(anyhow!("the unit is refused"));
-    }
+    table
+        .make(PERIODS, &units)
+        .map_err(|_| anyhow!("the unit is refused"))?;
     let start = Instant::now(rt)?;
     let sum = sum_of_floors(&table);
     let micros = start.elapsed(rt)?.as_micros();

@@ -2,84 +2,103 @@
 // and the row's floor at the prices. The rows that the run compares come from an independent implementation of the same rules.
 #![tactic(auto)]
 
-ghost use Rattle.std.specs.Prelude.{◌≤◌};
-
-use kinds::{CurveNumbers, ThermalUnit};
-use market::{Broken, Fleet, Refusal};
+use kinds::{CurveNumbers, MOST_PERIODS, TableFault, ThermalUnit};
+use market::{Broken, Fault, Fleet, RowPrices, Schedule};
 use measures::Grains;
+use std::alloc::{AllocError, AllocFailed, Global};
 use std::io::{BufRead, BufReader};
 use std::str::{FromStr, Split};
-use std::{fmt, io};
+use std::{array, fmt, io};
 use thermal::Thermal;
 
-// The longest day, and the longest curve.
-const PERIODS: usize = 96;
-
+// The longest curve.
 const SEGMENTS: usize = 10;
 
-const ENDS: usize = 11;
-
-// A unit with a schedule and with prices, each a cell for each period; the cells past the last period are never looked at.
+// Why a line gives no row.
 #[derive(Clone, Copy)]
+enum Unread {
+    Malformed,
+    OutOfMemory,
+}
+
+impl From<AllocError> for Unread {
+    fn from(_: AllocError) -> Unread {
+        Unread::OutOfMemory
+    }
+}
+
+impl<T: Drop> From<AllocFailed<T>> for Unread {
+    fn from(_e: AllocFailed<T>) -> Unread {
+        Unread::OutOfMemory
+    }
+}
+
+// A unit with a schedule and with prices, each a cell for each period.
+#[derive(Drop)]
 struct Row {
-    pub periods: usize,
     pub unit: ThermalUnit,
-    pub marks: [u8; PERIODS],
-    pub outputs: [i32; PERIODS],
-    pub net: [i64; PERIODS],
-    pub rise: [i32; PERIODS],
-    pub fall: [i32; PERIODS],
-    ghost fits: { periods ≤ 96 },
+    pub marks: Vec<u8>,
+    pub outputs: Vec<i32>,
+    pub net: Vec<i64>,
+    pub rise: Vec<i32>,
+    pub fall: Vec<i32>,
 }
 
 // The next field as one number.
-fn number<T: FromStr>(fields: &mut Split<'_, char>) -> Option<T>
+fn number<T: FromStr>(fields: &mut Split<'_, char>) -> Result<T, Unread>
 where
     <T as FromStr>::Err: Drop,
 {
-    match fields.next() {
-        Some(field) => field.parse().ok(),
-        None => None,
+    let field = fields.next().ok_or(Unread::Malformed)?;
+    field.parse().map_err(|_| Unread::Malformed)
+}
+
+// The next field as a list of so many numbers.
+fn list<T: FromStr + Drop>(
+    heap: Global,
+    fields: &mut Split<'_, char>,
+    many: usize,
+) -> Result<Vec<T>, Unread>
+where
+    <T as FromStr>::Err: Drop,
+{
+    let field = fields.next().ok_or(Unread::Malformed)?;
+    let numbers: Vec<T> = field
+        .split_whitespace()
+        .map(|word| word.parse().map_err(|_| Unread::Malformed))
+        .try_collect(heap)?;
+    if numbers.len() == many {
+        Ok(numbers)
+    } else {
+        Err(Unread::Malformed)
     }
 }
 
-// The next field as a list of as many numbers as there are cells.
-fn list<T: FromStr + Copy>(fields: &mut Split<'_, char>, cells: &mut [T]) -> Option<()>
-where
-    <T as FromStr>::Err: Drop,
-{
-    let mut words = fields.next()?.split_whitespace();
-    for cell in cells.iter_mut() {
-        *cell = words.next()?.parse().ok()?;
-    }
-    match words.next() {
-        Some(_) => None,
-        None => Some(()),
-    }
+// The numbers with zeros after them.
+fn padded<const N: usize>(numbers: &[i32]) -> [i32; N] {
+    array::from_fn(|place| numbers.get(place).copied().unwrap_or(0))
 }
 
 // `m;b0..bm;c1..cm`
-fn curve(fields: &mut Split<'_, char>) -> Option<CurveNumbers> {
+fn curve(heap: Global, fields: &mut Split<'_, char>) -> Result<CurveNumbers, Unread> {
     let segments: usize = number(fields)?;
-    let mut ends = [0i32; ENDS];
-    let mut prices = [0i32; SEGMENTS];
     if segments > SEGMENTS {
-        return None;
+        return Err(Unread::Malformed);
     }
-    list(fields, &mut ends[0..segments + 1])?;
-    list(fields, &mut prices[0..segments])?;
-    Some(CurveNumbers {
+    let ends = list(heap, fields, segments + 1)?;
+    let prices = list(heap, fields, segments)?;
+    Ok(CurveNumbers {
         segments,
-        ends,
-        prices,
+        ends: padded(&ends),
+        prices: padded(&prices),
     })
 }
 
 // The curve, then `Z;S;U;V;RU;RD;SU;SD;mark;H;p0`
-fn unit(fields: &mut Split<'_, char>) -> Option<ThermalUnit> {
-    Some(ThermalUnit {
+fn unit(heap: Global, fields: &mut Split<'_, char>) -> Result<ThermalUnit, Unread> {
+    Ok(ThermalUnit {
         node: 0,
-        curve: curve(fields)?,
+        curve: curve(heap, fields)?,
         no_load: number(fields)?,
         start_cost: number(fields)?,
         least_running: number(fields)?,
@@ -95,34 +114,23 @@ fn unit(fields: &mut Split<'_, char>) -> Option<ThermalUnit> {
 }
 
 // The number of periods, the unit, then the lists of marks, outputs, net prices, and prices of rises and of falls.
-fn parsed(line: &str) -> Option<Row> {
+fn parsed(heap: Global, line: &str) -> Result<Row, Unread> {
     let mut fields = line.split(';');
     let periods: usize = number(&mut fields)?;
-    if periods > PERIODS {
-        return None;
+    if periods > MOST_PERIODS {
+        return Err(Unread::Malformed);
     }
-    let unit = unit(&mut fields)?;
-    let mut marks = [0u8; PERIODS];
-    let mut outputs = [0i32; PERIODS];
-    let mut net = [0i64; PERIODS];
-    let mut rise = [0i32; PERIODS];
-    let mut fall = [0i32; PERIODS];
-    list(&mut fields, &mut marks[0..periods])?;
-    list(&mut fields, &mut outputs[0..periods])?;
-    list(&mut fields, &mut net[0..periods])?;
-    list(&mut fields, &mut rise[0..periods])?;
-    list(&mut fields, &mut fall[0..periods])?;
+    let row = Row {
+        unit: unit(heap, &mut fields)?,
+        marks: list(heap, &mut fields, periods)?,
+        outputs: list(heap, &mut fields, periods)?,
+        net: list(heap, &mut fields, periods)?,
+        rise: list(heap, &mut fields, periods)?,
+        fall: list(heap, &mut fields, periods)?,
+    };
     match fields.next() {
-        Some(_) => None,
-        None => Some(Row {
-            periods,
-            unit,
-            marks,
-            outputs,
-            net,
-            rise,
-            fall,
-        }),
+        Some(_) => Err(Unread::Malformed),
+        None => Ok(row),
     }
 }
 
@@ -131,7 +139,7 @@ enum Answer {
     // The line is no row.
     Malformed,
     // A table of this unit alone is not made.
-    Refused(Refusal),
+    Refused(TableFault),
     // The verdict on the schedule, and the floor at the prices.
     Told(Part, Part),
 }
@@ -143,10 +151,7 @@ struct Part(Result<Grains, Broken>);
 impl fmt::Display for Part {
     fn fmt<W: fmt::Write>(&self, f: &mut fmt::Formatter<W>) -> fmt::Result {
         match self.0 {
-            Ok(amount) => {
-                let grains = amount.0;
-                write!(f, "{grains}")
-            }
+            Ok(amount) => write!(f, "{amount}"),
             Err(broken) => {
                 let Broken { rule, period } = broken;
                 write!(f, "{rule}@{period}")
@@ -159,43 +164,45 @@ impl fmt::Display for Answer {
     fn fmt<W: fmt::Write>(&self, f: &mut fmt::Formatter<W>) -> fmt::Result {
         match *self {
             Answer::Malformed => write!(f, "malformed"),
-            Answer::Refused(refusal) => {
-                let number = refusal.number;
-                write!(f, "refused;{number}")
-            }
+            Answer::Refused(fault) => write!(f, "refused;{}", fault.number()),
             Answer::Told(verdict, floor) => write!(f, "{verdict};{floor}"),
         }
     }
 }
 
 fn told(row: &Row) -> Answer {
-    let periods = row.periods;
     let units = [row.unit];
     let mut table = Thermal::none();
-    if let Err(refusal) = table.make(periods, &units) {
-        return Answer::Refused(refusal);
+    if let Err(fault) = table.make(row.marks.len(), &units) {
+        return Answer::Refused(fault);
     }
-    let verdict = table.verdict(0, &row.marks[0..periods], &row.outputs[0..periods]);
-    let floor = table.floor(
-        0,
-        &row.net[0..periods],
-        &row.rise[0..periods],
-        &row.fall[0..periods],
-    );
-    Answer::Told(Part(verdict), Part(floor))
+    let schedule = Schedule {
+        marks: &row.marks,
+        outputs: &row.outputs,
+    };
+    let prices = RowPrices {
+        net: &row.net,
+        rise: &row.rise,
+        fall: &row.fall,
+    };
+    Answer::Told(
+        Part(table.verdict(0, &schedule)),
+        Part(table.floor(0, &prices)),
+    )
 }
 
-fn answered(line: &str) -> Answer {
-    match parsed(line) {
-        Some(row) => told(&row),
-        None => Answer::Malformed,
+fn answered(heap: Global, line: &str) -> Result<Answer, AllocError> {
+    match parsed(heap, line) {
+        Ok(row) => Ok(told(&row)),
+        Err(Unread::Malformed) => Ok(Answer::Malformed),
+        Err(Unread::OutOfMemory) => Err(AllocError),
     }
 }
 
 fn main(rt: HostRuntime) -> io::Result<()> {
     for line in BufReader::new(rt.alloc(), rt.stdin())?.lines(rt.alloc()) {
         let text = line?;
-        let answer = answered(text.as_str());
+        let answer = answered(rt.alloc(), text.as_str())?;
         println!(rt; "{answer}")?;
     }
     Ok(())

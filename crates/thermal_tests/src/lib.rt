@@ -3,8 +3,8 @@
 // Tables, verdicts and floors of thermal units worked out by hand.
 #[cfg(test)]
 mod tests {
-    use kinds::{CurveNumbers, ThermalUnit};
-    use market::{Broken, Fleet, Refusal};
+    use kinds::{CurveNumbers, TableFault, ThermalUnit};
+    use market::{Broken, Fault, Fleet, RowPrices, Schedule};
     use measures::Grains;
     use thermal::Thermal;
 
@@ -21,14 +21,18 @@ mod tests {
 
     use Answer::{Amount, Breaks, Made, Refused};
 
-    fn refused(refusal: Refusal) -> Answer {
-        Refused(refusal.number, refusal.place)
+    impl From<TableFault> for Answer {
+        fn from(fault: TableFault) -> Answer {
+            Refused(fault.number(), fault.place())
+        }
     }
 
-    fn told(answer: Result<Grains, Broken>) -> Answer {
-        match answer {
-            Ok(amount) => Amount(amount.0),
-            Err(broken) => Breaks(broken.rule, broken.period),
+    impl From<Result<Grains, Broken>> for Answer {
+        fn from(told: Result<Grains, Broken>) -> Answer {
+            match told {
+                Ok(Grains(amount)) => Amount(amount),
+                Err(Broken { rule, period }) => Breaks(rule, period),
+            }
         }
     }
 
@@ -184,36 +188,43 @@ mod tests {
     fn made(periods: usize, units: &[ThermalUnit]) -> Answer {
         match Thermal::none().make(periods, units) {
             Ok(()) => Made,
-            Err(refusal) => refused(refusal),
+            Err(fault) => fault.into(),
+        }
+    }
+
+    // What a table of this unit alone is asked, if it is one.
+    fn asked<Q: FnOnce(&Thermal) -> Result<Grains, Broken>>(
+        unit: ThermalUnit,
+        periods: usize,
+        question: Q,
+    ) -> Answer
+        requires { Q.IsAlwaysCallable question }
+    {
+        let units = [unit];
+        let mut table = Thermal::none();
+        match table.make(periods, &units) {
+            Ok(()) => question(&table).into(),
+            Err(fault) => fault.into(),
         }
     }
 
     fn ruled(unit: ThermalUnit, marks: &[u8], outputs: &[i32]) -> Answer {
-        let units = [unit];
-        let mut table = Thermal::none();
-        if let Err(refusal) = table.make(marks.len(), &units) {
-            return refused(refusal);
-        }
-        told(table.verdict(0, marks, outputs))
+        asked(unit, marks.len(), |table| {
+            table.verdict(0, &Schedule { marks, outputs })
+        })
     }
 
     fn priced(unit: ThermalUnit, net: &[i64], rise: &[i32], fall: &[i32]) -> Answer {
-        let units = [unit];
-        let mut table = Thermal::none();
-        if let Err(refusal) = table.make(net.len(), &units) {
-            return refused(refusal);
-        }
-        told(table.floor(0, net, rise, fall))
+        asked(unit, net.len(), |table| {
+            table.floor(0, &RowPrices { net, rise, fall })
+        })
     }
 
     // The first of these units that is not refused with 5.
     fn first_taken(units: &[ThermalUnit]) -> Option<usize> {
-        for row in 0..units.len() {
-            if made(1, &[RUNS, units[row]]) != Refused(5, 1) {
-                return Some(row);
-            }
-        }
-        None
+        units
+            .iter()
+            .position(|unit| made(1, &[RUNS, *unit]) != Refused(5, 1))
     }
 
     #[test]

@@ -14,11 +14,12 @@ ghost use Rattle.thermal.specs.Ahead.{nothing, ahead_of};
 use crate::mark::Mark;
 use crate::ruling::walking::{Ahead, PeriodWeights};
 use crate::ruling::{State, Unit};
+use kinds::MOST_PERIODS;
 use market::RowPrices;
 use measures::{Fen, Grains, NetPrice, Yuan};
 
 // A cell for each period of the longest day, and one after the last.
-const CELLS: usize = 97;
+const CELLS: usize = MOST_PERIODS + 1;
 
 // Before the first step of the walk back.
 fn ended() -> [Ahead; CELLS]
@@ -100,10 +101,7 @@ impl Priced<'_> {
         ensures { result.0 ≡ least_over (lowest self.now.unit.record.now.curve) (highest self.now.unit.record.now.curve) (net_cost self.now.unit.record.now.curve worth.0) }
     {
         let curve = self.unit.curve();
-        match curve.least(worth, curve.lowest(), curve.highest()) {
-            Some(least) => least,
-            None => unreachable(),
-        }
+        curve.least(worth, curve.lowest(), curve.highest()).unwrap()
     }
 
     // That least in a period, with the no_load cost.
