@@ -18,7 +18,7 @@ type DayCells = Cells<6, 2, 2>;
 const MOST_BYTES: usize = 65_536;
 
 // One byte more than is taken, so that a longer input shows.
-const READ_BYTES: u64 = 65_537;
+const READ_BYTES: u64 = MOST_BYTES as u64 + 1;
 
 // The file's rows by letter, or its fault.
 fn judge(file: &[u8]) -> Result<Counts, FileFault> {

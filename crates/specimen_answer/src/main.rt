@@ -3,12 +3,12 @@
 
 use market::{Refusal, label_of};
 use measures::Grains;
-use specimen_day::answer;
+use specimen_day::{MOST_BYTES, answer};
 use std::io;
 use std::io::Read;
 
 // One byte more than is taken, so that a longer input shows.
-const READ_BYTES: u64 = 65_537;
+const READ_BYTES: u64 = MOST_BYTES as u64 + 1;
 
 // A refusal's number, its place, and the label of its period, or a dash where it has none.
 fn print_refusal(rt: &impl Print, offer: &str, refusal: Refusal) -> io::Result<()> {

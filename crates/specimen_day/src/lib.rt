@@ -6,4 +6,4 @@ mod offering;
 mod rows;
 
 pub use answers::Answers;
-pub use offering::{answer, stars_follow};
+pub use offering::{MOST_BYTES, answer, stars_follow};

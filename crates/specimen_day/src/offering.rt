@@ -14,7 +14,8 @@ use market::{Day, DayNumbers, Plan, PriceSet, bound, judge};
 use thermal::Thermal;
 use vendor::{Cells, FileFault, Shape};
 
-const MOST_BYTES: usize = 65_536;
+// The longest file that is read.
+pub const MOST_BYTES: usize = 65_536;
 
 // Two units and a station.
 const SIZE: usize = 3;

@@ -1,5 +1,5 @@
 -- Digits read from the left, and when they are plain. Assumes nothing.
-use Rattle.std.proofs.Common.{◌≡◌, ℕ, ◌+◌, ◌-◌, ◌*◌, ◌<◌, ◌≤◌, true, false, not, ◌||◌, eqb, leb, List, length, get_or, take, drop, pos, sym, ap, ◌∙◌, ⊎_elim, arith, length-take-le, get_or-take}
+use Rattle.std.proofs.Common.{◌≡◌, ℕ, ◌+◌, ◌-◌, ◌*◌, ◌<◌, ◌≤◌, true, false, not, ◌||◌, eqb, leb, List, length, get_or, take, take_all, drop, pos, Some, None, cond, sym, ap, ◌∙◌, ⊎_elim, arith, length-take-le, get_or-take}
 use Rattle.std.specs.Str.Parse.{digits_value}
 use Rattle.std.specs.Int.{IsInRange}
 use Rattle.std.specs.Char.{is_ascii_digit, digit_value as digitValue}
@@ -88,8 +88,19 @@ pub is_digit : (b : ℕ) → is_ascii_digit b ≡ true → IsInRange 48 57 b
 is_digit b e = let p = and_parts (leb 48 b) (leb b 57) e in (leb-true 48 b p.0, leb-true b 57 p.1)
 
 -- eight digits write less than a hundred million
-pub eight : (ds : List ℕ) → DigitsBelow ds (length ds) → length ds ≤ 8 → digits_value 10 ds < 100000000
+eight : (ds : List ℕ) → DigitsBelow ds (length ds) → length ds ≤ 8 → digits_value 10 ds < 100000000
 eight ds each few = digits_value_short by_place ds 8 each few
+
+-- what was read when every byte was a digit
+module _ (ds : List ℕ) (i v : ℕ) (all : length ds ≤ i) (each : DigitsBelow ds i) (is : v ≡ digits_value 10 (take i ds)) where
+  whole : v ≡ digits_value 10 ds
+  whole = is ∙ ap (digits_value 10) (take_all i ds all)
+
+  pub whole_read : Some v ≡ cond (all_ascii_digits ds) (Some (digits_value 10 ds)) None
+  whole_read = ap Some whole ∙ sym (cond-true _ _ _ (digits_told ds (λ k lt. each k (omega arith))))
+
+  pub whole_small : length ds ≤ 8 → v < 100000000
+  whole_small few = omega (arith, whole, eight ds (λ k lt. each k (omega arith)) few)
 
 pub plain_value : (ds : List ℕ) → Plain ds → digits_value 10 ds < 100000000
 plain_value ds p = eight ds p.each p.short.few

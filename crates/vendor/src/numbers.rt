@@ -7,6 +7,7 @@ ghost use Rattle.vendor.specs.Numbers.{number, magnitude_of, below_zero};
 const MOST_DIGITS: usize = 8;
 
 // The number that digits write, or `None` where a byte is no digit.
+#[tactic(auto, using(crate::proofs::Decimals::short, crate::proofs::Decimals::one_more, crate::proofs::Decimals::no_digits_at, crate::proofs::Decimals::is_digit))]
 fn value(digits: &[u8]) -> Option<u32>
     requires { length digits.now ≤ 8 }
     ensures value { result ≡ cond (all_ascii_digits digits.now) (Some (digits_value 10 digits.now)) None }

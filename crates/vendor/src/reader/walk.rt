@@ -14,7 +14,7 @@ const ROW_END: u8 = b'\n';
 const SEMICOLON: u8 = b';';
 
 // The first place of `byte`, or the length where there is none.
-pub fn find(bytes: &[u8], byte: u8) -> usize
+fn find(bytes: &[u8], byte: u8) -> usize
     ensures within { result ≤ length bytes.now }
     ensures before { (k : ℕ) → k < result → slice_index bytes.now k ≢ byte }
     ensures found { result < length bytes.now → slice_index bytes.now result ≡ byte }
