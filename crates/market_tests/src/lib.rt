@@ -5,7 +5,7 @@
 mod tests {
     use fleets::{Fixed, Joined, Renewables};
     use kinds::{Curve, CurveNumbers, Station};
-    use market::{Day, DayNumbers, Fault, Plan, PriceSet, Refusal, bound, judge};
+    use market::{Day, DayNumbers, Fault, Plan, PriceSet, bound, judge};
     use measures::{Grains, NetPrice, Tenths};
 
     // Number, place and period of a refusal, or 0 and then the amount.
@@ -21,10 +21,6 @@ mod tests {
 
     fn refused(fault: impl Fault + Drop) -> Answer {
         Answer(fault.number(), fault.place(), fault.period(), 0)
-    }
-
-    fn refusal(refusal: Refusal) -> Answer {
-        Answer(refusal.number, refusal.place, refusal.period, 0)
     }
 
     const LOADS: [i32; 6] = [-100, -50, 300, 200, 400, 500];
@@ -63,7 +59,7 @@ mod tests {
             lower,
             upper,
         })
-        .map_err(refusal)?;
+        .map_err(refused)?;
         Ok(day)
     }
 
@@ -77,7 +73,7 @@ mod tests {
     }
 
     fn cost(lower: &[i32], upper: &[i32], marks: &[u8], outputs: &[i32]) -> Result<Grains, Answer> {
-        judge(&made(lower, upper)?, &rows()?, &Plan { marks, outputs }).map_err(refusal)
+        judge(&made(lower, upper)?, &rows()?, &Plan { marks, outputs }).map_err(refused)
     }
 
     fn judged(lower: &[i32], upper: &[i32], marks: &[u8], outputs: &[i32]) -> Answer {
@@ -172,7 +168,7 @@ mod tests {
                 fall,
             },
         )
-        .map_err(refusal)
+        .map_err(refused)
     }
 
     fn bounded(system: &[i32], upper: &[i32], fall: &[i32]) -> Answer {
@@ -219,14 +215,14 @@ mod tests {
             lower: &[],
             upper: &[],
         })
-        .map_err(refusal)?;
+        .map_err(refused)?;
         let mut fleet = Fixed::none();
         fleet.make(periods, &[0, 1], outputs).map_err(refused)?;
         let plan = Plan {
             marks: &[1, 1, 1, 1],
             outputs,
         };
-        judge(&day, &fleet, &plan).map_err(refusal)
+        judge(&day, &fleet, &plan).map_err(refused)
     }
 
     fn fitted(periods: usize, outputs: &[i32], count: usize) -> Answer {

@@ -115,21 +115,21 @@ small = (omega (arith, ints), omega (arith, ints))
 pub stars_follow : StarsFollow
 unfolding files.lines files.whole_fault row_fault pieces number thermal.first_broken thermal.period_cost thermal.floor thermal.lightest thermal.weight_in thermal.running_weight thermal.value leasts.least_over curves.below curves.running_cost
 stars_follow = (
-  by _ all_rows (held run (outputs 270 300 180 280 50 20) dear limited ramped) _ _ (lit≤ tt) refl refl (right refl refl refl refl refl refl refl refl) refl refl small,
+  (by _ all_rows (held run (outputs 270 300 180 280 50 20) dear limited ramped) _ _ (lit≤ tt) refl refl (right refl refl refl refl refl refl refl refl) refl refl small, refl),
   (
-    by _ (record { outputs = 6; system = 2; lines = 0; ramps = 0 }) (held run (outputs 270 300 180 280 50 20) (pos 20000 ∷ pos 20000 ∷ []) (pos 0 ∷ pos 0 ∷ []) (outputs 0 0 0 0 0 0)) _ _ (lit≤ tt) refl refl (right refl refl refl refl refl refl refl refl) refl refl (omega (arith, ints), omega (arith, ints)),
+    (by _ (record { outputs = 6; system = 2; lines = 0; ramps = 0 }) (held run (outputs 270 300 180 280 50 20) (pos 20000 ∷ pos 20000 ∷ []) (pos 0 ∷ pos 0 ∷ []) (outputs 0 0 0 0 0 0)) _ _ (lit≤ tt) refl refl (right refl refl refl refl refl refl refl refl) refl refl (omega (arith, ints), omega (arith, ints)), refl),
     (
-      by _ all_rows (held run (outputs 300 300 150 280 50 20) dear limited ramped) _ _ (lit≤ tt) refl refl (right refl refl refl refl refl refl refl refl) refl refl small,
+      (by _ all_rows (held run (outputs 300 300 150 280 50 20) dear limited ramped) _ _ (lit≤ tt) refl refl (right refl refl refl refl refl refl refl refl) refl refl small, refl),
       (
-        by _ all_rows (held run (outputs 300 330 150 250 50 20) dear limited ramped) _ _ (lit≤ tt) refl refl (right refl refl refl refl refl refl refl refl) refl refl small,
+        (by _ all_rows (held run (outputs 300 330 150 250 50 20) dear limited ramped) _ _ (lit≤ tt) refl refl (right refl refl refl refl refl refl refl refl) refl refl small, refl),
         (
-          by _ all_rows (held run (outputs 270 300 180 279 50 21) dear limited ramped) _ _ (lit≤ tt) refl refl (right refl refl refl refl refl refl refl refl) refl refl small,
+          (by _ all_rows (held run (outputs 270 300 180 279 50 21) dear limited ramped) _ _ (lit≤ tt) refl refl (right refl refl refl refl refl refl refl refl) refl refl small, refl),
           (
-            by _ all_rows (held (1 ∷ 1 ∷ 0 ∷ 1 ∷ 1 ∷ 1 ∷ []) (outputs 270 300 0 280 50 20) dear limited ramped) _ _ (lit≤ tt) refl refl (right refl refl refl refl refl refl refl refl) refl refl small,
+            (by _ all_rows (held (1 ∷ 1 ∷ 0 ∷ 1 ∷ 1 ∷ 1 ∷ []) (outputs 270 300 0 280 50 20) dear limited ramped) _ _ (lit≤ tt) refl refl (right refl refl refl refl refl refl refl refl) refl refl small, refl),
             (
-              by _ all_rows (held (0 ∷ 1 ∷ 1 ∷ 1 ∷ 1 ∷ 1 ∷ []) (outputs 0 200 180 280 50 20) dear limited ramped) _ _ (lit≤ tt) refl refl (right refl refl refl refl refl refl refl refl) refl refl small,
+              (by _ all_rows (held (0 ∷ 1 ∷ 1 ∷ 1 ∷ 1 ∷ 1 ∷ []) (outputs 0 200 180 280 50 20) dear limited ramped) _ _ (lit≤ tt) refl refl (right refl refl refl refl refl refl refl refl) refl refl small, refl),
               (
-                by _ all_rows (held run (outputs 270 300 181 280 50 20) dear limited ramped) _ _ (lit≤ tt) refl refl (right refl refl refl refl refl refl refl refl) refl refl small,
+                (by _ all_rows (held run (outputs 270 300 181 280 50 20) dear limited ramped) _ _ (lit≤ tt) refl refl (right refl refl refl refl refl refl refl refl) refl refl small, refl),
                 tt,
               ),
             ),

@@ -4,9 +4,11 @@ use Rattle.std.specs.List.{AllByRecursion}
 use Rattle.measures.specs.Amounts.{grains}
 use Rattle.measures.specs.declared.Grains.{Grains}
 use Rattle.market.specs.declared.refusal.Refusal.{Refusal}
+use Rattle.market.specs.declared.refusal.Refusal.TheVariants.{Row, Balance, Upper}
 use Rattle.market.specs.Bounding as Bounding
 use Rattle.market.specs.Clearing.{Plan, PriceSet}
-use Rattle.market.specs.Days.{Numbers, refusal}
+use Rattle.market.specs.Days.{Numbers}
+use Rattle.market.specs.Faults.{number_of, place_of, period_of}
 use Rattle.market.specs.Fleet.{Meaning}
 use Rattle.market.specs.Judging as Judging
 use Rattle.kinds.specs.declared.station.Station.{Station}
@@ -126,31 +128,37 @@ pub record Tells (file : List ℕ) (r : Result Answers FileFault) : Type 0 where
   pub short : length file ≤ 65536 → Answered file r
 
 -- ---- files whose answers follow from these definitions
--- a file, and what its plan and its prices are answered with
+-- a file, what its plan and its prices are answered with, and the number, place and period that a refused plan is told with
 pub record Starred : Type 0 where
   pub file : List ℕ
   pub plan : Result Grains Refusal
+  pub told : ℕ × ℕ × ℕ
   pub prices : Result Grains Refusal
 
 -- the amount of a plan or a price set that is taken, and what one is refused with
 abbrev pub cost : ℕ → Result Grains Refusal
 cost n = Ok (grains (pos n))
 
-abbrev pub broken : ℕ → ℕ → ℕ → Result Grains Refusal
-broken number place period = Err (refusal number place period)
+abbrev pub breaks : ℕ → ℕ → ℕ → Result Grains Refusal
+breaks rule row period = Err (Row row (record { rule = rule; period = period }))
+
+-- none where the plan is taken
+abbrev pub numbers : Result Grains Refusal → ℕ × ℕ × ℕ
+numbers (Ok c) = (0, 0, 0)
+numbers (Err e) = (number_of e, place_of e, period_of e)
 
 abbrev pub starred : List Starred
 starred =
-    record { file = codes "R;0;1;1;270\nR;0;2;1;300\nR;1;1;1;180\nR;1;2;1;280\nR;2;1;1;50\nR;2;2;1;20\nS;1;20000\nS;2;40000\nL;0;2;20000;0\nG;1;2;10000;0\n"; plan = cost 25200000000; prices = cost 25200000000 }
-    ∷ record { file = codes "R;0;1;1;270\nR;0;2;1;300\nR;1;1;1;180\nR;1;2;1;280\nR;2;1;1;50\nR;2;2;1;20\nS;1;20000\nS;2;20000\n"; plan = cost 25200000000; prices = cost 20600000000 }
-    ∷ record { file = codes "R;0;1;1;300\nR;0;2;1;300\nR;1;1;1;150\nR;1;2;1;280\nR;2;1;1;50\nR;2;2;1;20\nS;1;20000\nS;2;40000\nL;0;2;20000;0\nG;1;2;10000;0\n"; plan = broken 14 1 2; prices = cost 25200000000 }
-    ∷ record { file = codes "R;0;1;1;300\nR;0;2;1;330\nR;1;1;1;150\nR;1;2;1;250\nR;2;1;1;50\nR;2;2;1;20\nS;1;20000\nS;2;40000\nL;0;2;20000;0\nG;1;2;10000;0\n"; plan = broken 17 0 2; prices = cost 25200000000 }
-    ∷ record { file = codes "R;0;1;1;270\nR;0;2;1;300\nR;1;1;1;180\nR;1;2;1;279\nR;2;1;1;50\nR;2;2;1;21\nS;1;20000\nS;2;40000\nL;0;2;20000;0\nG;1;2;10000;0\n"; plan = broken 11 2 2; prices = cost 25200000000 }
-    ∷ record { file = codes "R;0;1;1;270\nR;0;2;1;300\nR;1;1;0;0\nR;1;2;1;280\nR;2;1;1;50\nR;2;2;1;20\nS;1;20000\nS;2;40000\nL;0;2;20000;0\nG;1;2;10000;0\n"; plan = broken 15 1 1; prices = cost 25200000000 }
-    ∷ record { file = codes "R;0;1;0;0\nR;0;2;1;200\nR;1;1;1;180\nR;1;2;1;280\nR;2;1;1;50\nR;2;2;1;20\nS;1;20000\nS;2;40000\nL;0;2;20000;0\nG;1;2;10000;0\n"; plan = broken 13 0 2; prices = cost 25200000000 }
-    ∷ record { file = codes "R;0;1;1;270\nR;0;2;1;300\nR;1;1;1;181\nR;1;2;1;280\nR;2;1;1;50\nR;2;2;1;20\nS;1;20000\nS;2;40000\nL;0;2;20000;0\nG;1;2;10000;0\n"; plan = broken 16 0 1; prices = cost 25200000000 }
+    record { file = codes "R;0;1;1;270\nR;0;2;1;300\nR;1;1;1;180\nR;1;2;1;280\nR;2;1;1;50\nR;2;2;1;20\nS;1;20000\nS;2;40000\nL;0;2;20000;0\nG;1;2;10000;0\n"; plan = cost 25200000000; told = (0, 0, 0); prices = cost 25200000000 }
+    ∷ record { file = codes "R;0;1;1;270\nR;0;2;1;300\nR;1;1;1;180\nR;1;2;1;280\nR;2;1;1;50\nR;2;2;1;20\nS;1;20000\nS;2;20000\n"; plan = cost 25200000000; told = (0, 0, 0); prices = cost 20600000000 }
+    ∷ record { file = codes "R;0;1;1;300\nR;0;2;1;300\nR;1;1;1;150\nR;1;2;1;280\nR;2;1;1;50\nR;2;2;1;20\nS;1;20000\nS;2;40000\nL;0;2;20000;0\nG;1;2;10000;0\n"; plan = breaks 14 1 2; told = (14, 1, 2); prices = cost 25200000000 }
+    ∷ record { file = codes "R;0;1;1;300\nR;0;2;1;330\nR;1;1;1;150\nR;1;2;1;250\nR;2;1;1;50\nR;2;2;1;20\nS;1;20000\nS;2;40000\nL;0;2;20000;0\nG;1;2;10000;0\n"; plan = Err (Upper 0 2); told = (17, 0, 2); prices = cost 25200000000 }
+    ∷ record { file = codes "R;0;1;1;270\nR;0;2;1;300\nR;1;1;1;180\nR;1;2;1;279\nR;2;1;1;50\nR;2;2;1;21\nS;1;20000\nS;2;40000\nL;0;2;20000;0\nG;1;2;10000;0\n"; plan = breaks 11 2 2; told = (11, 2, 2); prices = cost 25200000000 }
+    ∷ record { file = codes "R;0;1;1;270\nR;0;2;1;300\nR;1;1;0;0\nR;1;2;1;280\nR;2;1;1;50\nR;2;2;1;20\nS;1;20000\nS;2;40000\nL;0;2;20000;0\nG;1;2;10000;0\n"; plan = breaks 15 1 1; told = (15, 1, 1); prices = cost 25200000000 }
+    ∷ record { file = codes "R;0;1;0;0\nR;0;2;1;200\nR;1;1;1;180\nR;1;2;1;280\nR;2;1;1;50\nR;2;2;1;20\nS;1;20000\nS;2;40000\nL;0;2;20000;0\nG;1;2;10000;0\n"; plan = breaks 13 0 2; told = (13, 0, 2); prices = cost 25200000000 }
+    ∷ record { file = codes "R;0;1;1;270\nR;0;2;1;300\nR;1;1;1;181\nR;1;2;1;280\nR;2;1;1;50\nR;2;2;1;20\nS;1;20000\nS;2;40000\nL;0;2;20000;0\nG;1;2;10000;0\n"; plan = Err (Balance 1); told = (16, 0, 1); prices = cost 25200000000 }
     ∷ []
 
--- each of them is answered so
+-- each of them is answered and told so
 abbrev pub StarsFollow : Type 0
-StarsFollow = AllByRecursion (λ s. Tells s.file (Ok (record { plan = s.plan; prices = s.prices }))) starred
+StarsFollow = AllByRecursion (λ s. Tells s.file (Ok (record { plan = s.plan; prices = s.prices })) × (numbers s.plan ≡ s.told)) starred

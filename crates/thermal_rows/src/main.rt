@@ -15,21 +15,21 @@ use thermal::Thermal;
 const SEGMENTS: usize = 10;
 
 // Why a line gives no row.
-#[derive(Clone, Copy)]
+#[derive(Drop)]
 enum Unread {
     Malformed,
-    OutOfMemory,
+    OutOfMemory(AllocError),
 }
 
 impl From<AllocError> for Unread {
-    fn from(_: AllocError) -> Unread {
-        Unread::OutOfMemory
+    fn from(error: AllocError) -> Unread {
+        Unread::OutOfMemory(error)
     }
 }
 
 impl<T: Drop> From<AllocFailed<T>> for Unread {
-    fn from(_e: AllocFailed<T>) -> Unread {
-        Unread::OutOfMemory
+    fn from(error: AllocFailed<T>) -> Unread {
+        Unread::OutOfMemory(AllocError::from(error))
     }
 }
 
@@ -195,7 +195,7 @@ fn answered(heap: Global, line: &str) -> Result<Answer, AllocError> {
     match parsed(heap, line) {
         Ok(row) => Ok(told(&row)),
         Err(Unread::Malformed) => Ok(Answer::Malformed),
-        Err(Unread::OutOfMemory) => Err(AllocError),
+        Err(Unread::OutOfMemory(error)) => Err(error),
     }
 }
 
