@@ -2,7 +2,7 @@
 ghost use Rattle.std.specs.Prelude.{◌≡◌, ℕ, Result};
 ghost use Rattle.measures.specs.declared.Grains.{Grains};
 ghost use Rattle.market.specs.declared.broken.Broken.{Broken};
-ghost use Rattle.market.specs.Fleet.{Facts, Schedule as Meant, RowPrices as Priced, meaning_of, schedule_of, row_prices_of, node_answer, verdict_answer, floor_answer};
+ghost use Rattle.market.specs.Fleet.{Facts, Schedule, RowPrices, meaning_of, schedule_of, row_prices_of, node_answer, verdict_answer, floor_answer};
 ghost use Rattle.market.specs.Clearing.{FloorsStand};
 
 use crate::broken::Broken;
@@ -17,9 +17,9 @@ pub trait Fleet {
 
     ghost node: { Self → ℕ → ℕ };
 
-    ghost verdict: { Self → ℕ → Meant → Result Grains Broken };
+    ghost verdict: { Self → ℕ → Schedule → Result Grains Broken };
 
-    ghost floor: { Self → ℕ → Priced → Grains };
+    ghost floor: { Self → ℕ → RowPrices → Grains };
 
     fn periods(&self) -> usize
         ensures { result ≡ periods self.now };
