@@ -11,7 +11,7 @@ use crate::refusal::Refusal;
 
 const MOST_ROWS: usize = 32;
 
-// The first row that does not stand at a node of the day.
+// The first row that does not stand at a node of the day. A fleet is asked by a row's number.
 fn misplaced<F: Fleet>(fleet: &F, nodes: usize) -> Option<usize>
     ensures { Misplaced (meaning F.Fleet fleet.now) nodes result }
 {

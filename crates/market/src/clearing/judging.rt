@@ -40,7 +40,8 @@ impl<F: Fleet> Drop for Offer<'_, F> {
 
 const MOST_NODES: usize = 16;
 
-// What each node draws in a period, below zero.
+// What each node draws in a period, below zero. The loads of one period lie a row of the table apart, so they are walked by number; `array::from_fn`
+// was tried, and that its closure may be called at every node was not proved.
 fn drawn(day: &Day, period: usize) -> [i32; MOST_NODES]
     requires { period < day.now.numbers.periods }
     ensures long { length result ≡ 16 }
@@ -96,7 +97,8 @@ fn flow(day: &Day, line: usize, fed: &[i32]) -> Flow
     all
 }
 
-// The first line whose limit is broken by what the nodes feed in, the upper limit asked before the lower.
+// The first line whose limit is broken by what the nodes feed in, the upper limit asked before the lower. The flow is that of a line by its number,
+// so the lines are walked by number too.
 fn lines_asked(day: &Day, fed: &[i32], period: usize) -> Result<(), Refusal>
     requires few { (day.now.numbers.nodes ≡ length fed.now) × (period < 96) }
     requires small { (k : ℕ) → k < day.now.numbers.nodes → Within 680000 (at fed.now k) }
@@ -131,7 +133,7 @@ impl<F: Fleet> Offer<'_, F> {
         }
     }
 
-    // The rows' costs, or the first rule that a row breaks.
+    // The rows' costs, or the first rule that a row breaks. A sum of signed amounts has no bound in a chain of iterators.
     fn rows_cost(&self) -> Result<Grains, Refusal>
         ensures judged { RowsJudged (numbers_of self.now.day.now.numbers) (meaning F.Fleet self.now.fleet.now) (plan_of self.now.plan.now) result }
         ensures small { SmallTold result }
@@ -146,7 +148,8 @@ impl<F: Fleet> Offer<'_, F> {
         Ok(cost)
     }
 
-    // What each node feeds in, net, in a period: its rows' outputs less its load.
+    // What each node feeds in, net, in a period: its rows' outputs less its load. A fleet is asked by a row's number, and the outputs of one period
+    // lie a row of the table apart.
     fn gathered(&self, period: usize) -> [i32; MOST_NODES]
         requires kept { RowsKept (numbers_of self.now.day.now.numbers) (meaning F.Fleet self.now.fleet.now) (plan_of self.now.plan.now) (F.size self.now.fleet.now) }
         requires on { period < self.now.day.now.numbers.periods }

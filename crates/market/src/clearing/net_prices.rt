@@ -1,4 +1,5 @@
 // Net prices: what a tenth of a megawatt fed in at a node is worth in a period. Periods count from 0 here.
+// The cells of one period lie a row of their table apart, so these walks go by number: chunks would only be taken to read one cell of each.
 mod bounding;
 
 ghost use Rattle.std.specs.Prelude.{◌≡◌, ◌<◌, length, slice_index_or};
@@ -57,6 +58,7 @@ impl<'a> LinePrices<'a> {
         net
     }
 
+    // By number, since node and period are worked out of the cell's place; `iter_mut` over the part that is used was tried, and not proved.
     fn nets(self) -> Nets<'a>
         ensures { result.lines ≡ self.entry }
     {
