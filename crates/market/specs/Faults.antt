@@ -1,9 +1,12 @@
 -- What every no is told with: its number, its place and its period, 0 where it names none. Assumes nothing.
-use Rattle.std.specs.Prelude.{ℕ}
+use Rattle.std.specs.Prelude.{ℕ, List, [], ◌∷◌, ◌++◌, Some, None, Option}
+use Rattle.std.specs.Fmt.{decimal}
 use Rattle.market.specs.declared.day_fault.DayFault.{DayFault}
 use Rattle.market.specs.declared.day_fault.DayFault.TheVariants as day
 use Rattle.market.specs.declared.refusal.Refusal.{Refusal}
 use Rattle.market.specs.declared.refusal.Refusal.TheVariants as offer
+use Rattle.market.specs.declared.label.Label.{Label}
+use Rattle.market.specs.Labels.{label, label_text}
 
 -- a day: 1 its shape, 2 its lengths, 3 a number of it; a load names its node and period, a factor and a limit their line
 abbrev pub day_number : DayFault → ℕ
@@ -64,3 +67,12 @@ period_of (offer.Balance t) = t
 period_of (offer.Upper l t) = t
 period_of (offer.Lower l t) = t
 period_of (offer.Price p t) = t
+
+-- the label of a period, or a dash (byte 45)
+abbrev pub when : Option Label → List ℕ
+when None = 45 ∷ []
+when (Some l) = label_text l
+
+-- as a refusal is printed: number, place, and the label of the period, with semicolons (byte 59) between them
+abbrev pub text_of : Refusal → List ℕ
+text_of e = decimal (number_of e) ++ (59 ∷ (decimal (place_of e) ++ (59 ∷ when (label (period_of e)))))

@@ -1,6 +1,6 @@
 // The label of a period: the time at its end, 00:15 for period 1 to 24:00 for period 96.
-ghost use Rattle.std.specs.Prelude.{◌≡◌, ◌*◌, ◌/◌, ◌%◌, ◌≤◌};
-ghost use Rattle.market.specs.Labels.{label};
+ghost use Rattle.std.specs.Prelude.{◌≡◌, ◌*◌, ◌/◌, ◌%◌, ◌≤◌, Some};
+ghost use Rattle.market.specs.Labels.{label, label_text};
 
 use std::fmt;
 
@@ -10,10 +10,20 @@ pub struct Label {
     pub minute: u8,
 }
 
+// Two digits each, with a colon between them.
 impl fmt::Display for Label {
+    ghost output = { λ label. Some (label_text label) };
+
     fn fmt<W: fmt::Write>(&self, f: &mut fmt::Formatter<W>) -> fmt::Result {
         let Label { hour, minute } = *self;
-        write!(f, "{hour:02}:{minute:02}")
+        write!(
+            f,
+            "{}{}:{}{}",
+            hour / 10,
+            hour % 10,
+            minute / 10,
+            minute % 10
+        )
     }
 }
 

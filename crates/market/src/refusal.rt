@@ -1,5 +1,6 @@
 // What a plan or a price set is refused for.
-ghost use Rattle.market.specs.Faults.{number_of, place_of, period_of};
+ghost use Rattle.std.specs.Prelude.{Some};
+ghost use Rattle.market.specs.Faults.{number_of, place_of, period_of, text_of};
 
 use crate::broken::Broken;
 use crate::fault::Fault;
@@ -69,12 +70,12 @@ impl Fault for Refusal {
 
 // The number, the place, and the label of the period, or a dash where there is none.
 impl fmt::Display for Refusal {
+    ghost output = { λ refusal. Some (text_of refusal) };
+
     fn fmt<W: fmt::Write>(&self, f: &mut fmt::Formatter<W>) -> fmt::Result {
-        let number = self.number();
-        let place = self.place();
         match label_of(self.period()) {
-            Some(label) => write!(f, "{number};{place};{label}"),
-            None => write!(f, "{number};{place};-"),
+            Some(label) => write!(f, "{};{};{}", self.number(), self.place(), label),
+            None => write!(f, "{};{};-", self.number(), self.place()),
         }
     }
 }

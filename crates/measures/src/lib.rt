@@ -2,7 +2,8 @@
 // a product of two measures, and its factor is exact.
 #![tactic(auto)]
 
-ghost use Rattle.std.specs.Prelude.{◌≡◌, pos, ◌+ℤ◌, ◌-ℤ◌, ◌*ℤ◌, FitsSigned, int_lt};
+ghost use Rattle.std.specs.Prelude.{◌≡◌, pos, ◌+ℤ◌, ◌-ℤ◌, ◌*ℤ◌, FitsSigned, Some, int_lt};
+ghost use Rattle.std.specs.Fmt.{signed_decimal};
 ghost use Rattle.std.specs.Int.{w32, w64};
 
 use std::fmt;
@@ -255,7 +256,10 @@ impl Sub<Grains> for Grains {
     }
 }
 
+// As a decimal number.
 impl fmt::Display for Grains {
+    ghost output = { λ amount. Some (signed_decimal amount.0) };
+
     fn fmt<W: fmt::Write>(&self, f: &mut fmt::Formatter<W>) -> fmt::Result {
         write!(f, "{}", self.0)
     }
