@@ -62,7 +62,7 @@ impl AlwaysRuns for Row<'_> {
     ghost cost = { λ row output. running_cost row.curve.numbers output };
 
     fn allows(&self, period: usize, output: Tenths) -> bool {
-        0 <= output.0 && output.0 <= self.most(period).0
+        Tenths(0) <= output && output <= self.most(period)
     }
 
     fn cost(&self, output: Tenths) -> Grains {
