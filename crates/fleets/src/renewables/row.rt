@@ -1,4 +1,4 @@
-// A row of a table of renewable stations: its curve, and the power that is available to it, a cell for each period.
+// A row of a table of renewable stations.
 ghost use Rattle.std.specs.Prelude.{◌≡◌, ℕ, ◌<◌, ◌≤◌, length, pos};
 ghost use Rattle.measures.specs.Amounts.{grains};
 ghost use Rattle.market.specs.Scans.{Within, at, in_test};
@@ -12,6 +12,7 @@ use crate::judging::AlwaysRuns;
 use kinds::Curve;
 use measures::{Grains, NetPrice, Tenths};
 
+// Its curve, and the power that is available to it, a cell for each period.
 #[derive(Clone, Copy)]
 pub(crate) struct Row<'a> {
     pub curve: Curve,
