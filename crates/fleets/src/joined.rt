@@ -1,7 +1,9 @@
 // Two fleets as one: the first's rows, and then the second's.
+ghost use Rattle.std.specs.Prelude.{◌≡◌};
 ghost use Rattle.market.specs.Meanings.{meaning};
 ghost use Rattle.kinds.specs.Joined.{joined};
 ghost use Rattle.kinds.proofs.Joining.{joined_shows};
+ghost use Rattle.fleets.specs.Sides.{side_of};
 
 use kinds::MOST_ROWS;
 use market::{Broken, Fleet, RowPrices, Schedule, row_asked};
@@ -11,6 +13,26 @@ use measures::Grains;
 pub struct Joined<A, B> {
     pub first: A,
     pub second: B,
+}
+
+// The fleet that a row is of, and the row as that fleet counts it.
+enum Side {
+    First(usize),
+    Second(usize),
+}
+
+impl<A: Fleet, B: Fleet> Joined<A, B> {
+    fn side(&self, row: usize) -> Result<Side, Broken>
+        ensures { result ≡ side_of (A.size self.now.first) (joined (meaning A.Fleet self.now.first) (meaning B.Fleet self.now.second)).size row }
+    {
+        row_asked(row, self.size())?;
+        let first = self.first.size();
+        if row < first {
+            Ok(Side::First(row))
+        } else {
+            Ok(Side::Second(row - first))
+        }
+    }
 }
 
 impl<A: Fleet, B: Fleet> Fleet for Joined<A, B> {
@@ -41,32 +63,23 @@ impl<A: Fleet, B: Fleet> Fleet for Joined<A, B> {
     }
 
     fn node(&self, row: usize) -> Result<usize, Broken> {
-        row_asked(row, self.size())?;
-        let first = self.first.size();
-        if row < first {
-            self.first.node(row)
-        } else {
-            self.second.node(row - first)
+        match self.side(row)? {
+            Side::First(own) => self.first.node(own),
+            Side::Second(own) => self.second.node(own),
         }
     }
 
     fn verdict(&self, row: usize, schedule: &Schedule) -> Result<Grains, Broken> {
-        row_asked(row, self.size())?;
-        let first = self.first.size();
-        if row < first {
-            self.first.verdict(row, schedule)
-        } else {
-            self.second.verdict(row - first, schedule)
+        match self.side(row)? {
+            Side::First(own) => self.first.verdict(own, schedule),
+            Side::Second(own) => self.second.verdict(own, schedule),
         }
     }
 
     fn floor(&self, row: usize, prices: &RowPrices) -> Result<Grains, Broken> {
-        row_asked(row, self.size())?;
-        let first = self.first.size();
-        if row < first {
-            self.first.floor(row, prices)
-        } else {
-            self.second.floor(row - first, prices)
+        match self.side(row)? {
+            Side::First(own) => self.first.floor(own, prices),
+            Side::Second(own) => self.second.floor(own, prices),
         }
     }
 }

@@ -41,6 +41,9 @@ module _ (outputs : List ℤ) (fits : InBefore (neg_ℤ (pos 20000)) (pos 20000)
   earned_small net n l limits = total_within n 340000000000000 (λ t. at net t *ℤ at outputs t) (λ t h. term_small (at net t) t (omega arith) (limits t (omega arith)))
 
 module _ (f : Table) (made : Made f) where
+  fixed_small : (r t : ℕ) → r < length f.nodes → t < f.periods → Within 20000 (fixed_at f r t)
+  fixed_small r t hr ht = made.outputs _ (omega (arith, made.shape.lengths.all, place_below r (length f.nodes) f.periods t hr ht))
+
   -- row r's part of the outputs: a cell for each period, each within its limits, and the fixed output in each
   pub part_long : (r : ℕ) → r < length f.nodes → length (part f.periods r f.outputs) ≡ f.periods
   part_long r h = length_part f.periods r (length f.nodes) f.outputs h made.shape.lengths.all
@@ -48,7 +51,7 @@ module _ (f : Table) (made : Made f) where
   pub part_fits : (r : ℕ) → r < length f.nodes → InBefore (neg_ℤ (pos 20000)) (pos 20000) (part f.periods r f.outputs) (length (part f.periods r f.outputs))
   part_fits r h t l =
       let k : t < f.periods = omega (arith, part_long r h) in
-      subst (Within 20000) (sym (at_part f.periods r t f.outputs (pos 0) k)) (made.outputs _ (omega (arith, made.shape.lengths.all, place_below r (length f.nodes) f.periods t h k)))
+      subst (Within 20000) (sym (at_part f.periods r t f.outputs (pos 0) k)) (fixed_small r t h k)
 
   -- what the part says of row r's verdict, and of what it earns
   pub row_verdict : (r : ℕ) (s : Schedule) (xs : List ℤ) → r < length f.nodes → xs ≡ part f.periods r f.outputs
@@ -64,9 +67,6 @@ module _ (f : Table) (made : Made f) where
   row_earned r net xs h e =
       ap (λ n. total n (λ t. at net t *ℤ at xs t)) (ap length e ∙ part_long r h)
       ∙ total_cong f.periods _ _ (λ t k. ap (λ x. at net t *ℤ x) (ap (λ ys. at ys t) e ∙ at_part f.periods r t f.outputs (pos 0) k))
-
-  fixed_small : (r t : ℕ) → r < length f.nodes → t < f.periods → Within 20000 (fixed_at f r t)
-  fixed_small r t hr ht = made.outputs _ (omega (arith, made.shape.lengths.all, place_below r (length f.nodes) f.periods t hr ht))
 
   -- minus what a row earns in all
   pub minus_small : (r : ℕ) (net : List ℤ) → r < length f.nodes → ((t : ℕ) → t < f.periods → Within 17000000000 (at net t)) → Within 50000000000000000 (pos 0 -ℤ total f.periods (λ t. at net t *ℤ fixed_at f r t))

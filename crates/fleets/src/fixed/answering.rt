@@ -1,10 +1,8 @@
 // A table of fixed schedules as a fleet.
-ghost use Rattle.std.specs.Prelude.{◌≡◌, ℕ, ◌<◌, ◌≤◌, length, pos, neg_ℤ, ◌*ℤ◌};
+ghost use Rattle.std.specs.Prelude.{◌≡◌, ◌<◌, length};
 ghost use Rattle.market.specs.Clearing.{part};
 ghost use Rattle.market.specs.Fleet.{schedule_of, row_prices_of, floor_answer};
-ghost use Rattle.market.specs.Scans.{InBefore, Within, at};
-ghost use Rattle.market.specs.Totals.{total};
-ghost use Rattle.kinds.specs.Fixed.{fixed, is_test};
+ghost use Rattle.kinds.specs.Fixed.{fixed};
 ghost use Rattle.kinds.proofs.FixedRows.{fixed_shows};
 ghost use Rattle.kinds.proofs.FixedTables.{made_so};
 ghost use Rattle.fleets.specs.Held.{rows_of};
@@ -13,10 +11,11 @@ use crate::fixed::Fixed;
 use crate::fixed::row::Row;
 use crate::judging::judged;
 use market::{Broken, Fleet, RowPrices, Schedule, prices_asked, row_asked, schedule_asked};
-use measures::{Grains, NetPrice, Tenths};
+use measures::Grains;
 
 impl Fixed<'_> {
-    fn row(&self, row: usize) -> Row
+    // The row by itself: its part of the outputs.
+    fn row(&self, row: usize) -> Row<'_>
         requires { row < length self.now.nodes.now }
         ensures { result.outputs.now ≡ part self.now.periods row self.now.outputs.now }
     {

@@ -1,4 +1,4 @@
-// A row of a table of fixed schedules: the outputs that it has, a cell for each period.
+// A row of a table of fixed schedules.
 ghost use Rattle.std.specs.Prelude.{◌≡◌, ℕ, ◌<◌, ◌≤◌, length, pos, neg_ℤ, ◌*ℤ◌};
 ghost use Rattle.market.specs.Scans.{InBefore, Within, at};
 ghost use Rattle.market.specs.Totals.{total};
@@ -8,6 +8,7 @@ ghost use Rattle.kinds.proofs.FixedRows.{nothing_small};
 use crate::judging::AlwaysRuns;
 use measures::{Grains, NetPrice, Tenths};
 
+// The outputs that it has, a cell for each period.
 #[derive(Clone, Copy)]
 pub(crate) struct Row<'a> {
     pub outputs: &'a [i32],

@@ -1,7 +1,6 @@
 // A table of renewable stations as a fleet.
-ghost use Rattle.std.specs.Prelude.{◌≡◌, ℕ, ◌<◌, length};
+ghost use Rattle.std.specs.Prelude.{◌≡◌, ◌<◌, length};
 ghost use Rattle.market.specs.Fleet.{schedule_of, row_prices_of, floor_answer};
-ghost use Rattle.market.specs.Scans.{Within, at};
 ghost use Rattle.kinds.specs.Renewables.{curve, power, renewables};
 ghost use Rattle.kinds.proofs.RenewableRows.{renewables_show};
 ghost use Rattle.kinds.proofs.RenewableTables.{made_so};
@@ -15,7 +14,8 @@ use market::{Broken, Fleet, RowPrices, Schedule, prices_asked, row_asked, schedu
 use measures::Grains;
 
 impl Renewables<'_> {
-    fn row(&self, row: usize) -> Row
+    // The row by itself: its curve, and its part of the available power.
+    fn row(&self, row: usize) -> Row<'_>
         requires { row < length self.now.stations.now }
         ensures curve { result.curve.numbers ≡ curve (stations_of self.now) row }
         ensures available { result.available.now ≡ power (stations_of self.now) row }

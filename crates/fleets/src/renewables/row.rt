@@ -1,4 +1,4 @@
-// A row of a table of renewable stations: its curve, and the power that is available to it, a cell for each period.
+// A row of a table of renewable stations.
 ghost use Rattle.std.specs.Prelude.{◌≡◌, ℕ, ◌<◌, ◌≤◌, length, pos};
 ghost use Rattle.measures.specs.Amounts.{grains};
 ghost use Rattle.market.specs.Scans.{Within, at, in_test};
@@ -12,6 +12,7 @@ use crate::judging::AlwaysRuns;
 use kinds::Curve;
 use measures::{Grains, NetPrice, Tenths};
 
+// Its curve, and the power that is available to it, a cell for each period.
 #[derive(Clone, Copy)]
 pub(crate) struct Row<'a> {
     pub curve: Curve,
@@ -62,7 +63,7 @@ impl AlwaysRuns for Row<'_> {
     ghost cost = { λ row output. running_cost row.curve.numbers output };
 
     fn allows(&self, period: usize, output: Tenths) -> bool {
-        0 <= output.0 && output.0 <= self.most(period).0
+        Tenths(0) <= output && output <= self.most(period)
     }
 
     fn cost(&self, output: Tenths) -> Grains {

@@ -1,17 +1,14 @@
-use Rattle.std.proofs.Common.{◌≡◌, ℕ, ◌+◌, ◌*◌, ◌<◌, ◌≤◌, Bool, List, drop, slice_index, ℤ, pos, ◌+ℤ◌, Some, None, Ok, Err, Option, Result, is_ok, sym, refl, ap, ◌∙◌, subst, ⊎_elim, arith, w32, SFits, rules}
-use Rattle.std.proofs.lemmas.Bool.{both_ways}
+use Rattle.std.proofs.Common.{◌≡◌, ℕ, ◌+◌, ◌*◌, ◌<◌, ◌≤◌, Bool, List, drop, slice_index, ℤ, pos, ◌+ℤ◌, Some, None, Err, Option, sym, ap, ◌∙◌, subst, ⊎_elim, arith, w32, SFits, rules}
 use Rattle.std.proofs.lemmas.Int.{ints, to_z-of_z}
 use Rattle.std.proofs.lemmas.Result.{err_from_is_err_and}
 use Rattle.measures.specs.Amounts.{grains}
 use Rattle.measures.specs.declared.Grains.{Grains}
-use Rattle.market.specs.declared.broken.Broken.{Broken}
 use Rattle.market.specs.Fleet.{broken}
 use Rattle.market.specs.Scans.{Within, at}
 use Rattle.market.proofs.Totals.{total_within}
-use Rattle.kinds.specs.declared.rule.Rule.{Rule}
 use Rattle.kinds.specs.Rules.{number_of, broken_by, running_rule}
 use Rattle.kinds.specs.Verdicts.{LawfulAt, Judged}
-use Rattle.kinds.proofs.Telling.{told_on}
+use Rattle.kinds.proofs.Telling.{told_ok, told_err}
 use Rattle.kinds.proofs.Verdicts.{lawful_more, judged_lawful, judged_broken}
 use Rattle.fleets.proofs.Turns.{front, spent}
 use Rattle.fleets.proofs.judging.judged.Goals as goal
@@ -23,11 +20,6 @@ rule_is marks outputs allows t period m o p a b d e = λ j. running_rule (b j) (
 -- one lawful period more
 next : (rule : ℕ → Option ℕ) (cost : ℕ → ℤ) (t n : ℕ) (c more x : ℤ) → LawfulAt rule cost t (grains c) → None ≡ rule t → more ≡ cost t → x ≡ c +ℤ more → n ≡ t + 1 → LawfulAt rule cost n (grains x)
 next rule cost t n c more x l kept e f g = subst (λ k. LawfulAt rule cost k (grains x)) (sym g) (subst (λ z. LawfulAt rule cost (t + 1) (grains z)) (sym (f ∙ ap (λ z. c +ℤ z) e)) (lawful_more rule cost t c l (sym kept)))
-
--- what was passed on broke no rule
-kept : (r : Result (Unit {0}) Rule) (s : Result (Unit {0}) Broken) (u : Unit {0}) → is_ok s ≡ is_ok r → s ≡ Ok u → None ≡ broken_by r
-kept (Ok v) s u e f = refl
-kept (Err k) s u e f = absurd (both_ways (is_ok s) e (ap is_ok f))
 
 -- a period that breaks rule k, by the number that the loop gives it
 broken_at : (rule : ℕ → Option ℕ) (cost : ℕ → ℤ) (n t p k : ℕ) (c : Grains) → p ≡ t → t < n → LawfulAt rule cost t c → rule t ≡ Some k → Judged rule cost n (Err (broken k (p + 1)))
@@ -41,7 +33,7 @@ returns-in_err-map_err g c =
     let o = front c.args.schedule.now.outputs.now c.loop-period.period-iterator.count c.in-Some.output.now _ _ i.outputs s.0.1 in
     let fits : SFits w32 c.in-Some.output.now = search rules in
     let p = err_from_is_err_and c.from_residual.result c.from_residual.ensures.1 in
-    let t = told_on _ (λ r. broken (number_of r) (c.in-Some.period + 1)) c.rule.result c.map_err.result _ (λ e k. search rules) c.map_err.ensures.cases c.in_err-map_err.was in
+    let t = told_err _ (λ r. broken (number_of r) (c.in-Some.period + 1)) c.rule.result c.map_err.result _ (λ e k. search rules) c.map_err.ensures.cases c.in_err-map_err.was in
     let asked = sym (ap broken_by t.1) ∙ c.rule.ensures ∙ rule_is _ _ (g.R.AlwaysRuns.allows c.args.row.now) c.loop-period.period-iterator.count c.in-Some.period c.in-Some.mark.now c.in-Some.output.now _ s.1 (m.at 0) (o.at (pos 0)) (to_z-of_z w32 _ fits) in
     rw (p.1, p.2, t.2) (broken_at _ _ (g.R.AlwaysRuns.periods c.args.row.now) c.loop-period.period-iterator.count c.in-Some.period (number_of t.0) c.loop-period.cost s.1 (omega (arith, m.within, c.requires.marks)) i.lawful (sym asked))
 
@@ -63,7 +55,7 @@ loop-period-preserved g c =
     let o = front c.args.schedule.now.outputs.now c.loop-period.period-iterator.count c.in-Some.output.now _ _ i.outputs s.0.1 in
     let fits : SFits w32 c.in-Some.output.now = search rules in
     let same = to_z-of_z w32 _ fits in
-    let asked = kept _ _ _ c.map_err.ensures.variant c.in_ok-map_err.was ∙ c.rule.ensures ∙ rule_is _ _ (g.R.AlwaysRuns.allows c.args.row.now) c.loop-period.period-iterator.count c.in-Some.period c.in-Some.mark.now c.in-Some.output.now _ s.1 (m.at 0) (o.at (pos 0)) same in
+    let asked = ap broken_by (sym (told_ok _ c.rule.result c.map_err.result _ c.map_err.ensures.cases c.in_ok-map_err.was)) ∙ c.rule.ensures ∙ rule_is _ _ (g.R.AlwaysRuns.allows c.args.row.now) c.loop-period.period-iterator.count c.in-Some.period c.in-Some.mark.now c.in-Some.output.now _ s.1 (m.at 0) (o.at (pos 0)) same in
     let price = c.cost.ensures ∙ ap (g.R.AlwaysRuns.cost c.args.row.now) (same ∙ o.at (pos 0)) in
     record {
       can = search rules;
