@@ -121,7 +121,7 @@ module _ (u : ThermalUnit) (made : UnitMade u) where
     unfolding value
     value_within t = value_small (at q.net t) (at q.rise t) (at q.rise (suc t)) (at q.fall t) (at q.fall (suc t)) (fit.net t) (fit.rise t) (fit.rise (suc t)) (fit.fall t) (fit.fall (suc t))
 
-    least_within : (t : ℕ) → Within 404000000000000 (least_over (lowest u.curve) (highest u.curve) (net_cost u.curve (value q t)))
+    pub least_within : (t : ℕ) → Within 404000000000000 (least_over (lowest u.curve) (highest u.curve) (net_cost u.curve (value q t)))
     least_within t = least_small (value q t) (value_within t)
 
     pub running_weight_within : (t : ℕ) → Within 404400000000000 (running_weight u q t)

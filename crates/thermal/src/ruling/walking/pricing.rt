@@ -65,89 +65,93 @@ struct Priced<'a> {
     ghost fit: { PricesFit (row_prices_of prices) },
 }
 
-impl Priced<'_> {
-    fn periods(&self) -> usize
-        ensures { result ≡ length self.now.prices.net.now }
+// The same in one of the periods.
+#[derive(Clone, Copy)]
+struct PricedPeriod<'a> {
+    pub day: Priced<'a>,
+    pub period: usize,
+    ghost within: { period < length day.prices.net.now },
+}
+
+impl PricedPeriod<'_> {
+    fn rise(&self) -> Fen
+        ensures { result.0 ≡ at self.now.day.prices.rise.now self.now.period }
     {
-        self.prices.net.len()
+        Fen(self.day.prices.rise[self.period])
     }
 
-    fn rise(&self, period: usize) -> Fen
-        requires { period < length self.now.prices.net.now }
-        ensures { result.0 ≡ at self.now.prices.rise.now period }
+    fn fall(&self) -> Fen
+        ensures { result.0 ≡ at self.now.day.prices.fall.now self.now.period }
     {
-        Fen(self.prices.rise[period])
+        Fen(self.day.prices.fall[self.period])
     }
 
-    fn fall(&self, period: usize) -> Fen
-        requires { period < length self.now.prices.net.now }
-        ensures { result.0 ≡ at self.now.prices.fall.now period }
+    // What a tenth of a megawatt is worth: its net price, with the prices of the rise and fall into the period and out of it.
+    fn value(&self) -> NetPrice
+        ensures { result.0 ≡ value (row_prices_of self.now.day.prices) self.now.period }
     {
-        Fen(self.prices.fall[period])
-    }
-
-    // What a tenth of a megawatt is worth in a period: its net price, with the prices of the rise and fall into the period and out of it.
-    fn value(&self, period: usize) -> NetPrice
-        requires { period < length self.now.prices.net.now }
-        ensures { result.0 ≡ value (row_prices_of self.now.prices) period }
-    {
-        let RowPrices { net, rise, fall } = self.prices;
-        NetPrice(net[period]) - (lead(rise, period) - lead(fall, period)).net()
+        let RowPrices { net, rise, fall } = self.day.prices;
+        NetPrice(net[self.period]) - (lead(rise, self.period) - lead(fall, self.period)).net()
     }
 
     // The least of running cost less worth over the whole curve.
-    fn least(&self, worth: NetPrice) -> Grains
-        requires { Within 20000000000 worth.0 }
-        ensures { result.0 ≡ least_over (lowest self.now.unit.record.now.curve) (highest self.now.unit.record.now.curve) (net_cost self.now.unit.record.now.curve worth.0) }
+    fn least(&self) -> Grains
+        ensures { result.0 ≡ least_over (lowest self.now.day.unit.record.now.curve) (highest self.now.day.unit.record.now.curve) (net_cost self.now.day.unit.record.now.curve (value (row_prices_of self.now.day.prices) self.now.period)) }
     {
-        let curve = self.unit.curve();
-        curve.least(worth, curve.lowest(), curve.highest()).unwrap()
+        let curve = self.day.unit.curve();
+        curve
+            .least(self.value(), curve.lowest(), curve.highest())
+            .unwrap()
     }
 
-    // That least in a period, with the no_load cost.
-    fn running_weight(&self, period: usize) -> Grains
-        requires { period < length self.now.prices.net.now }
-        ensures { result.0 ≡ running_weight self.now.unit.record.now (row_prices_of self.now.prices) period }
+    // That least, with the no_load cost.
+    fn running_weight(&self) -> Grains
+        ensures { result.0 ≡ running_weight self.now.day.unit.record.now (row_prices_of self.now.day.prices) self.now.period }
     {
-        self.least(self.value(period)) + Yuan(self.unit.record.no_load).grains()
+        self.least() + Yuan(self.day.unit.record.no_load).grains()
     }
 
     // What the allowances take off at the prices of rises and falls.
-    fn allowed(&self, period: usize, before: Mark, mark: Mark) -> Grains
-        requires { period < length self.now.prices.net.now }
-        ensures told { result.0 ≡ pos 1000 *ℤ (at self.now.prices.rise.now period *ℤ rise_allowance self.now.unit.record.now (code_of before) (code_of mark) +ℤ at self.now.prices.fall.now period *ℤ fall_allowance self.now.unit.record.now (code_of before) (code_of mark)) }
+    fn allowed(&self, before: Mark, mark: Mark) -> Grains
+        ensures told { result.0 ≡ pos 1000 *ℤ (at self.now.day.prices.rise.now self.now.period *ℤ rise_allowance self.now.day.unit.record.now (code_of before) (code_of mark) +ℤ at self.now.day.prices.fall.now self.now.period *ℤ fall_allowance self.now.day.unit.record.now (code_of before) (code_of mark)) }
         ensures small { Within 40000000000000 result.0 }
     {
-        self.rise(period).net() * self.unit.rise_allowance(before, mark)
-            + self.fall(period).net() * self.unit.fall_allowance(before, mark)
+        self.rise().net() * self.day.unit.rise_allowance(before, mark)
+            + self.fall().net() * self.day.unit.fall_allowance(before, mark)
     }
 
     // What a period weighs, where a running one weighs so much before its start and its allowances.
-    fn weight(&self, runs: Grains, period: usize, before: Mark, mark: Mark) -> Grains
-        requires place { period < length self.now.prices.net.now }
-        requires runs { runs.0 ≡ running_weight self.now.unit.record.now (row_prices_of self.now.prices) period }
-        ensures { result.0 ≡ weight_in self.now.unit.record.now (row_prices_of self.now.prices) period (code_of before) (code_of mark) }
+    fn weight(&self, runs: Grains, before: Mark, mark: Mark) -> Grains
+        requires { runs.0 ≡ running_weight self.now.day.unit.record.now (row_prices_of self.now.day.prices) self.now.period }
+        ensures { result.0 ≡ weight_in self.now.day.unit.record.now (row_prices_of self.now.day.prices) self.now.period (code_of before) (code_of mark) }
     {
         let running = match mark {
             Mark::Running => runs,
             Mark::Stopped => Grains(0),
         };
-        running + self.unit.start_part(before, mark) - self.allowed(period, before, mark)
+        running + self.day.unit.start_part(before, mark) - self.allowed(before, mark)
     }
 
     // What a period weighs.
-    fn weights(&self, period: usize) -> PeriodWeights
-        requires { period < length self.now.prices.net.now }
-        ensures run { result.run.0 ≡ weight_in self.now.unit.record.now (row_prices_of self.now.prices) period 1 1 }
-        ensures start { result.start.0 ≡ weight_in self.now.unit.record.now (row_prices_of self.now.prices) period 0 1 }
-        ensures stop { result.stop.0 ≡ weight_in self.now.unit.record.now (row_prices_of self.now.prices) period 1 0 }
+    fn weights(&self) -> PeriodWeights
+        ensures run { result.run.0 ≡ weight_in self.now.day.unit.record.now (row_prices_of self.now.day.prices) self.now.period 1 1 }
+        ensures start { result.start.0 ≡ weight_in self.now.day.unit.record.now (row_prices_of self.now.day.prices) self.now.period 0 1 }
+        ensures stop { result.stop.0 ≡ weight_in self.now.day.unit.record.now (row_prices_of self.now.day.prices) self.now.period 1 0 }
     {
-        let runs = self.running_weight(period);
+        let runs = self.running_weight();
         PeriodWeights {
-            run: self.weight(runs, period, Mark::Running, Mark::Running),
-            start: self.weight(runs, period, Mark::Stopped, Mark::Running),
-            stop: self.weight(runs, period, Mark::Running, Mark::Stopped),
+            run: self.weight(runs, Mark::Running, Mark::Running),
+            start: self.weight(runs, Mark::Stopped, Mark::Running),
+            stop: self.weight(runs, Mark::Running, Mark::Stopped),
         }
+    }
+}
+
+impl Priced<'_> {
+    fn periods(&self) -> usize
+        ensures { result ≡ length self.now.prices.net.now }
+    {
+        self.prices.net.len()
     }
 
     // The walk back, from after the last period to the first.
@@ -159,11 +163,8 @@ impl Priced<'_> {
         for period in (0..periods).rev() {
             let may_stop = free_from(period, self.unit.record.least_running, periods);
             let may_start = free_from(period, self.unit.record.least_stopped, periods);
-            walk[period] = walk[period + 1].before(
-                self.weights(period),
-                walk[may_stop],
-                walk[may_start],
-            );
+            let weights = PricedPeriod { day: *self, period }.weights();
+            walk[period] = walk[period + 1].before(weights, walk[may_stop], walk[may_start]);
         }
         walk
     }
@@ -192,7 +193,11 @@ impl Priced<'_> {
         ensures told { result.0 ≡ pos 1000 *ℤ (at self.now.prices.fall.now 0 -ℤ at self.now.prices.rise.now 0) *ℤ self.now.unit.record.now.output }
         ensures small { Within 20000000000000 result.0 }
     {
-        (self.fall(0) - self.rise(0)).net() * State::from(&self.unit).output
+        let first = PricedPeriod {
+            day: *self,
+            period: 0,
+        };
+        (first.fall() - first.rise()).net() * State::from(&self.unit).output
     }
 
     // Both together.

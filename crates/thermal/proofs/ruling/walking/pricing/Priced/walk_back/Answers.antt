@@ -9,7 +9,7 @@ use Rattle.kinds.proofs.Walking.{walked_end, walked_step}
 use Rattle.thermal.specs.declared.ruling.walking.Ahead.{Ahead}
 use Rattle.thermal.specs.Ahead.{amounts, nothing, ahead_of}
 use Rattle.thermal.proofs.ruling.walking.pricing.Priced.walk_back.Goals as goal
-use Rattle.thermal.proofs.ruling.walking.pricing.Priced.walk_back.Goals.{After-weights}
+use Rattle.thermal.proofs.ruling.walking.pricing.Priced.walk_back.Goals.{After-weights-weights}
 
 -- what stands after t, and at t, once it is written there
 kept : (walk : List Ahead) (t k : ℕ) (x : Ahead) → t < k → ahead_of (set walk t x) k ≡ ahead_of walk k
@@ -28,26 +28,26 @@ loop-period-init c =
     (subst (λ k. Walked p.unit.record.now (row_prices_of p.prices) n k (ahead_of c.ended-walk.result)) (sym c.periods-periods.ensures) w, ap length c.ended-walk.ensures)
 
 -- the walk so far, from the period after this one on
-later : (c : After-weights) → Walked c.args.self.now.unit.record.now (row_prices_of c.args.self.now.prices) (length c.args.self.now.prices.net.now) (c.loop-period.period - 1 + 1) (ahead_of c.loop-period.walk)
+later : (c : After-weights-weights) → Walked c.args.self.now.unit.record.now (row_prices_of c.args.self.now.prices) (length c.args.self.now.prices.net.now) (c.loop-period.period - 1 + 1) (ahead_of c.loop-period.walk)
 later c =
     let p = c.args.self.now in
     let e : c.loop-period.period ≡ c.loop-period.period - 1 + 1 = omega arith in
     subst (λ k. Walked p.unit.record.now (row_prices_of p.prices) (length p.prices.net.now) k (ahead_of c.loop-period.walk)) e c.loop-period.invariant.0
 
 -- its amounts are small
-small : (c : After-weights) (k : ℕ) → c.loop-period.period - 1 + 1 ≤ k → k ≤ length c.args.self.now.prices.net.now → AheadWithin (ahead_of c.loop-period.walk k)
+small : (c : After-weights-weights) (k : ℕ) → c.loop-period.period - 1 + 1 ≤ k → k ≤ length c.args.self.now.prices.net.now → AheadWithin (ahead_of c.loop-period.walk k)
 small c = let p = c.args.self.now in cells_within p.unit.record.now p.unit.made (row_prices_of p.prices) p.fit (length p.prices.net.now) p.day.1 (c.loop-period.period - 1 + 1) (ahead_of c.loop-period.walk) (later c)
 
 pub before-requires : goal.before-requires
 before-requires c =
     let p = c.args.self.now in
     let t = c.loop-period.period - 1 in
-    let i = (goal.at.before-requires c).After-weights in
+    let i = (goal.at.before-requires c).After-weights-weights in
     let W = weight_in_within p.unit.record.now p.unit.made (row_prices_of p.prices) p.fit t in
     let running = p.unit.made.numbers.least_running.0 in
     let stopped = p.unit.made.numbers.least_stopped.0 in
     record {
-      weights = (subst (λ z. Within 452400000000000 z) (sym c.weights.ensures.run) (W 1 1), subst (λ z. Within 452400000000000 z) (sym c.weights.ensures.start) (W 0 1), subst (λ z. Within 452400000000000 z) (sym c.weights.ensures.stop) (W 1 0));
+      weights = (subst (λ z. Within 452400000000000 z) (sym c.weights-weights.ensures.run) (W 1 1), subst (λ z. Within 452400000000000 z) (sym c.weights-weights.ensures.start) (W 0 1), subst (λ z. Within 452400000000000 z) (sym c.weights-weights.ensures.stop) (W 1 0));
       ahead = (small i (t + 1) (omega arith) (omega arith), (small i c.free_from-may_stop.result (omega arith) (omega arith), small i c.free_from-may_start.result (omega arith) (omega arith)));
     }
 
@@ -56,11 +56,11 @@ loop-period-preserved c =
     let p = c.args.self.now in
     let u = p.unit.record.now in
     let n = length p.prices.net.now in
-    let i = (goal.at.loop-period-preserved c).After-weights in
+    let i = (goal.at.loop-period-preserved c).After-weights-weights in
     let few = p.day.1 in
     let t = c.loop-period.period - 1 in
     let walk = c.loop-period.walk in
-    let w = c.weights.ensures in
+    let w = c.weights-weights.ensures in
     let x = c.before-in-loop-period in
     let start = c.free_from-may_start.ensures ∙ ap (λ m. min (t + u.least_stopped) m) c.periods-periods.ensures in
     let stop = c.free_from-may_stop.ensures ∙ ap (λ m. min (t + u.least_running) m) c.periods-periods.ensures in
