@@ -1,6 +1,6 @@
 -- Which of two joined fleets a row is of. Assumes nothing.
 use Rattle.std.specs.Prelude.{ℕ, ◌-◌, cond, Ok, Err, Result, nat_lt}
-use Rattle.market.specs.declared.refusal.Broken.{Broken}
+use Rattle.market.specs.declared.broken.Broken.{Broken}
 use Rattle.market.specs.Fleet.{broken}
 use Rattle.fleets.specs.declared.joined.Side.{Side}
 use Rattle.fleets.specs.declared.joined.Side.TheVariants.{First, Second}

@@ -2,7 +2,7 @@ use Rattle.std.proofs.Common.{◌≡◌, ℕ, suc, ◌+◌, ◌*◌, ◌<◌, �
 use Rattle.std.proofs.Math.Seq.{drop-cons}
 use Rattle.std.proofs.lemmas.Bool.{cases_lt}
 use Rattle.std.proofs.lemmas.Int.{ints, to_z-of_z}
-use Rattle.std.proofs.lemmas.Result.{err_from_is_err_and, MatchResult-at_err}
+use Rattle.std.proofs.lemmas.Result.{err_from_is_err_and}
 use Rattle.std.specs.Iterator.Adapters.{enumerate_count, enumerate_source, zip_first, zip_second}
 use Rattle.std.specs.Slice.Iter.{iter_rest}
 use Rattle.std.specs.Result.{IsErrAnd}
@@ -67,8 +67,8 @@ returns-in_err-mark c =
     let tells = λ (r : Rule) (d : Broken) (e : d ≡ broken (number_of r) (c.in-Some.period + 1)). e ∙ ap (λ t. broken (number_of r) (t + 1)) c.in-Some.ensures.steps.1 in
     let i = (goal.at.returns-in_err-mark c).After-asked in
     let p = err_from_is_err_and c.from_residual.result c.from_residual.ensures.1 in
-    let t = told_on _ (λ r. broken (number_of r) (now i + 1)) c.asked.result c.map_err.result _ (λ r k. tells r _ (search rules)) c.map_err.ensures.cases c.in_err-mark.was in
-    rw (p.1, p.2, t.2) (judged_broken _ _ _ (now i) _ _ (mark_turn i).0 c.loop-period.invariant.lawful (sym (rule_is i) ∙ MatchResult-at_err _ _ t.0 t.1 c.asked.ensures))
+    let t = told_on _ _ _ (λ r. broken (number_of r) (now i + 1)) c.asked.result c.map_err.result _ (λ r k. tells r _ (search rules)) c.asked.ensures c.map_err.ensures.cases c.in_err-mark.was in
+    rw (p.1, p.2, t.2) (judged_broken _ _ _ (now i) _ _ (mark_turn i).0 c.loop-period.invariant.lawful (sym (rule_is i) ∙ t.1))
 
 module _ (c : After-period_cost) where
   abbrev asked : After-asked
