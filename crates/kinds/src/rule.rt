@@ -5,7 +5,7 @@ ghost use Rattle.kinds.specs.Rules.{number_of};
 
 use market::Broken;
 
-// The mark of a period in which a row runs.
+// The mark of a period in which a row runs: a number, since marks are lent as bytes.
 pub const RUNNING: u8 = 1;
 
 #[derive(Clone, Copy, PartialEq, Eq, Debug)]

@@ -1,4 +1,4 @@
-// A day's numbers as they are handed in.
+// A day's numbers as they are handed in: tables that the caller lends, with the counts that say how they are to be read.
 
 // Loads lie node by node and then by period, in tenths of a megawatt; factors line by line and then node by node, in thousandths;
 // limits line by line, in tenths of a megawatt.

@@ -111,6 +111,8 @@ impl Flow {
     }
 }
 
+// Each measure has its own sum and difference: one impl for all would take one struct for all, and each measure stays a struct around one
+// number of its own.
 impl Add<Tenths> for Tenths {
     type Output = Tenths;
 

@@ -34,7 +34,8 @@ pub struct Counts {
 
 const MOST_ROWS: usize = 32;
 
-// Whether a table has just `items` times `periods` cells; the product may be larger than any table.
+// Whether a table has just `items` times `periods` cells; the product may be larger than any table. The market has the same line: for one line
+// neither crate is to stand on the other.
 fn exact(len: usize, items: usize, periods: usize) -> bool
     ensures { result ≡ (len == items * periods) }
 {

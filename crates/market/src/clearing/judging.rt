@@ -38,6 +38,7 @@ impl<F: Fleet> Drop for Offer<'_, F> {
     }
 }
 
+// What the nodes feed in lies in an array, since judging may not run out of memory.
 const MOST_NODES: usize = 16;
 
 // What each node draws in a period, below zero. The loads of one period lie a row of the table apart, so they are walked by number; `array::from_fn`

@@ -28,7 +28,7 @@ struct LinePrices<'a> {
     ghost priced: { LinesPriced (numbers_of day.now.numbers) (prices_of prices.now) },
 }
 
-// A cell for each of 16 nodes and 96 periods.
+// A cell for each of 16 nodes and 96 periods: an array, since bounding may not run out of memory.
 const MOST_CELLS: usize = 1_536;
 
 // The net prices that they make, node by node and then by period.

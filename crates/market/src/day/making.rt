@@ -20,7 +20,8 @@ const MOST_FACTOR: i32 = 1_000;
 
 const MOST_LIMIT: i32 = 200_000;
 
-// Whether a table has just `items` times `each` cells; the product may be larger than any table.
+// Whether a table has just `items` times `each` cells; the product may be larger than any table. The reader of files has the same line: for one line
+// neither crate is to stand on the other.
 fn exact(len: usize, items: usize, each: usize) -> bool
     ensures { result ≡ (len == items * each) }
 {

@@ -18,7 +18,7 @@ use kinds::MOST_PERIODS;
 use market::RowPrices;
 use measures::{Fen, Grains, NetPrice, Yuan};
 
-// A cell for each period of the longest day, and one after the last.
+// A cell for each period of the longest day, and one after the last: an array, since a floor may not run out of memory.
 const CELLS: usize = MOST_PERIODS + 1;
 
 // Before the first step of the walk back.
@@ -154,7 +154,7 @@ impl Priced<'_> {
         self.prices.net.len()
     }
 
-    // The walk back, from after the last period to the first.
+    // The walk back, from after the last period to the first. It reads two later periods by number, so it goes by number itself.
     fn walk_back(&self) -> [Ahead; CELLS]
         ensures { Walked self.now.unit.record.now (row_prices_of self.now.prices) (length self.now.prices.net.now) 0 (ahead_of result) }
     {
