@@ -33,11 +33,6 @@ abbrev pub PeriodTold : Numbers → (m : Meaning) → Plan → ℕ → Result (U
 PeriodTold d m p t (Ok u) = Balanced d m p t × LinesKept d m p t d.lines
 PeriodTold d m p t (Err e) = Cleared d m p t → BreaksFirst d m p e
 
--- every period keeps the market rules, or e tells the first rule that the plan breaks
-abbrev pub PeriodsTold : Numbers → (m : Meaning) → Plan → Result (Unit {0}) Refusal → Type 0
-PeriodsTold d m p (Ok u) = Cleared d m p d.periods
-PeriodsTold d m p (Err e) = BreaksFirst d m p e
-
 -- the first no: the fleet does not fit the day, or the plan has not its lengths, or it breaks a rule
 pub data Refused (d : Numbers) (m : Meaning) (p : Plan) : Refusal → Type 0 where
   unplaced : (e : Refusal) → Unplaced d m e → Refused d m p e

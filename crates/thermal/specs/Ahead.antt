@@ -1,10 +1,8 @@
 -- The amounts that the walk back keeps, as numbers. Assumes nothing.
 use Rattle.std.specs.Prelude.{ℕ, List, pos, slice_index_or}
 use Rattle.measures.specs.Amounts.{grains}
-use Rattle.market.specs.Scans.{Within}
 use Rattle.kinds.specs.Walks.{Ahead as Amounts}
 use Rattle.thermal.specs.declared.ruling.walking.Ahead.{Ahead}
-use Rattle.thermal.specs.declared.ruling.walking.PeriodWeights.{PeriodWeights}
 
 abbrev pub amounts : Ahead → Amounts
 amounts a = record { run = a.run.0; on = a.on.0; off = a.off.0 }
@@ -15,7 +13,3 @@ nothing = record { run = grains (pos 0); on = grains (pos 0); off = grains (pos 
 
 abbrev pub ahead_of : List Ahead → ℕ → Amounts
 ahead_of walk k = amounts (slice_index_or walk k nothing)
-
--- no weight is above what a period can weigh
-abbrev pub WeightsWithin : PeriodWeights → Type 0
-WeightsWithin w = Within 452400000000000 w.run.0 × Within 452400000000000 w.start.0 × Within 452400000000000 w.stop.0

@@ -5,7 +5,7 @@ ghost use Rattle.market.specs.Clearing.{RowsKept, factor, part, row as row_of};
 ghost use Rattle.market.specs.Days.{numbers_of};
 ghost use Rattle.market.specs.Fleet.{schedule_of};
 ghost use Rattle.market.specs.Injections.{Drawn, Fed, flow_of, LinesTold};
-ghost use Rattle.market.specs.Judging.{plan_of, Ready, RowsJudged, PeriodTold, PeriodsTold, Answered, SmallTold, Told};
+ghost use Rattle.market.specs.Judging.{plan_of, Ready, RowsJudged, PeriodTold, Answered, SmallTold, Told};
 ghost use Rattle.market.specs.Meanings.{meaning};
 ghost use Rattle.market.specs.Scans.{Within, at};
 ghost use Rattle.market.specs.Totals.{total};
@@ -183,24 +183,15 @@ impl<F: Fleet> Offer<'_, F> {
         lines_asked(self.day, fed, period)
     }
 
-    // The first market rule that is broken, period by period.
-    fn periods_asked(&self) -> Result<(), Refusal>
-        requires kept { RowsKept (numbers_of self.now.day.now.numbers) (meaning F.Fleet self.now.fleet.now) (plan_of self.now.plan.now) (F.size self.now.fleet.now) }
-        ensures { PeriodsTold (numbers_of self.now.day.now.numbers) (meaning F.Fleet self.now.fleet.now) (plan_of self.now.plan.now) result }
-    {
-        for period in 0..self.day.numbers.periods {
-            self.period_asked(period)?;
-        }
-        Ok(())
-    }
-
-    // What a lawful plan costs, or the first rule that is broken: the rows', and then the market's.
+    // What a lawful plan costs, or the first rule that is broken: the rows', and then the market's period by period.
     fn judged(&self) -> Result<Grains, Refusal>
         ensures answered { Answered (numbers_of self.now.day.now.numbers) (meaning F.Fleet self.now.fleet.now) (plan_of self.now.plan.now) result }
         ensures small { SmallTold result }
     {
         let cost = self.rows_cost()?;
-        self.periods_asked()?;
+        for period in 0..self.day.numbers.periods {
+            self.period_asked(period)?;
+        }
         Ok(cost)
     }
 

@@ -4,7 +4,7 @@ use Rattle.std.proofs.lemmas.List.{get_or-replicate, get_or-set_same, get_or-set
 use Rattle.market.specs.Fleet.{row_prices_of}
 use Rattle.market.specs.Scans.{Within}
 use Rattle.kinds.specs.Walks.{Walked, AheadWithin, running_to}
-use Rattle.kinds.proofs.Units.{cells_within, weight_in_within}
+use Rattle.kinds.proofs.Units.{cells_within}
 use Rattle.kinds.proofs.Walking.{walked_end, walked_step}
 use Rattle.thermal.specs.declared.ruling.walking.Ahead.{Ahead}
 use Rattle.thermal.specs.Ahead.{amounts, nothing, ahead_of}
@@ -43,13 +43,9 @@ before-requires c =
     let p = c.args.self.now in
     let t = c.loop-period.period - 1 in
     let i = (goal.at.before-requires c).After-weights-weights in
-    let W = weight_in_within p.unit.record.now p.unit.made (row_prices_of p.prices) p.fit t in
     let running = p.unit.made.numbers.least_running.0 in
     let stopped = p.unit.made.numbers.least_stopped.0 in
-    record {
-      weights = (subst (λ z. Within 452400000000000 z) (sym c.weights-weights.ensures.run) (W 1 1), subst (λ z. Within 452400000000000 z) (sym c.weights-weights.ensures.start) (W 0 1), subst (λ z. Within 452400000000000 z) (sym c.weights-weights.ensures.stop) (W 1 0));
-      ahead = (small i (t + 1) (omega arith) (omega arith), (small i c.free_from-may_stop.result (omega arith) (omega arith), small i c.free_from-may_start.result (omega arith) (omega arith)));
-    }
+    (small i (t + 1) (omega arith) (omega arith), (small i c.free_from-may_stop.result (omega arith) (omega arith), small i c.free_from-may_start.result (omega arith) (omega arith)))
 
 pub loop-period-preserved : goal.loop-period-preserved
 loop-period-preserved c =
