@@ -1,6 +1,7 @@
 // Fixed schedules: rows whose output is told beforehand.
 mod answering;
 mod making;
+mod row;
 
 ghost use Rattle.std.specs.Prelude.{◌≡◌, true};
 ghost use Rattle.kinds.specs.Fixed.{made_test, table};

@@ -1,13 +1,12 @@
 // Two fleets as one: the first's rows, and then the second's.
-ghost use Rattle.market.specs.Fleet.{meaning_of};
-ghost use Rattle.kinds.specs.Joined.{joined};
+ghost use Rattle.std.specs.Prelude.{◌≡◌};
+ghost use Rattle.kinds.specs.Joined.{joined, meaning};
 ghost use Rattle.kinds.proofs.Joining.{joined_shows};
+ghost use Rattle.fleets.specs.Sides.{side_of};
 
-use crate::rules::LENGTHS;
-use market::{Broken, Fleet};
+use kinds::MOST_ROWS;
+use market::{Broken, Fleet, RowPrices, Schedule, row_asked};
 use measures::Grains;
-
-const MOST_ROWS: usize = 32;
 
 #[derive(Clone, Copy)]
 pub struct Joined<A, B> {
@@ -15,18 +14,38 @@ pub struct Joined<A, B> {
     pub second: B,
 }
 
+// The fleet that a row is of, and the row as that fleet counts it.
+enum Side {
+    First(usize),
+    Second(usize),
+}
+
+impl<A: Fleet, B: Fleet> Joined<A, B> {
+    fn side(&self, row: usize) -> Result<Side, Broken>
+        ensures { result ≡ side_of (A.size self.now.first) (joined (meaning A.Fleet self.now.first) (meaning B.Fleet self.now.second)).size row }
+    {
+        row_asked(row, self.size())?;
+        let first = self.first.size();
+        if row < first {
+            Ok(Side::First(row))
+        } else {
+            Ok(Side::Second(row - first))
+        }
+    }
+}
+
 impl<A: Fleet, B: Fleet> Fleet for Joined<A, B> {
-    ghost periods = { λ f. (joined (meaning_of (A.Fleet.periods f.first) (A.Fleet.size f.first) (A.Fleet.node f.first) (A.Fleet.verdict f.first) (A.Fleet.floor f.first)) (meaning_of (B.Fleet.periods f.second) (B.Fleet.size f.second) (B.Fleet.node f.second) (B.Fleet.verdict f.second) (B.Fleet.floor f.second))).periods };
+    ghost periods = { λ f. (joined (meaning A.Fleet f.first) (meaning B.Fleet f.second)).periods };
 
-    ghost size = { λ f. (joined (meaning_of (A.Fleet.periods f.first) (A.Fleet.size f.first) (A.Fleet.node f.first) (A.Fleet.verdict f.first) (A.Fleet.floor f.first)) (meaning_of (B.Fleet.periods f.second) (B.Fleet.size f.second) (B.Fleet.node f.second) (B.Fleet.verdict f.second) (B.Fleet.floor f.second))).size };
+    ghost size = { λ f. (joined (meaning A.Fleet f.first) (meaning B.Fleet f.second)).size };
 
-    ghost node = { λ f. (joined (meaning_of (A.Fleet.periods f.first) (A.Fleet.size f.first) (A.Fleet.node f.first) (A.Fleet.verdict f.first) (A.Fleet.floor f.first)) (meaning_of (B.Fleet.periods f.second) (B.Fleet.size f.second) (B.Fleet.node f.second) (B.Fleet.verdict f.second) (B.Fleet.floor f.second))).node };
+    ghost node = { λ f. (joined (meaning A.Fleet f.first) (meaning B.Fleet f.second)).node };
 
-    ghost verdict = { λ f. (joined (meaning_of (A.Fleet.periods f.first) (A.Fleet.size f.first) (A.Fleet.node f.first) (A.Fleet.verdict f.first) (A.Fleet.floor f.first)) (meaning_of (B.Fleet.periods f.second) (B.Fleet.size f.second) (B.Fleet.node f.second) (B.Fleet.verdict f.second) (B.Fleet.floor f.second))).verdict };
+    ghost verdict = { λ f. (joined (meaning A.Fleet f.first) (meaning B.Fleet f.second)).verdict };
 
-    ghost floor = { λ f. (joined (meaning_of (A.Fleet.periods f.first) (A.Fleet.size f.first) (A.Fleet.node f.first) (A.Fleet.verdict f.first) (A.Fleet.floor f.first)) (meaning_of (B.Fleet.periods f.second) (B.Fleet.size f.second) (B.Fleet.node f.second) (B.Fleet.verdict f.second) (B.Fleet.floor f.second))).floor };
+    ghost floor = { λ f. (joined (meaning A.Fleet f.first) (meaning B.Fleet f.second)).floor };
 
-    ghost facts = { λ f. joined_shows (meaning_of (A.Fleet.periods f.first) (A.Fleet.size f.first) (A.Fleet.node f.first) (A.Fleet.verdict f.first) (A.Fleet.floor f.first)) (meaning_of (B.Fleet.periods f.second) (B.Fleet.size f.second) (B.Fleet.node f.second) (B.Fleet.verdict f.second) (B.Fleet.floor f.second)) (A.Fleet.facts f.first) (B.Fleet.facts f.second) };
+    ghost facts = { λ f. joined_shows (meaning A.Fleet.own f.first) (meaning B.Fleet.own f.second) (A.Fleet.facts f.first) (B.Fleet.facts f.second) };
 
     fn periods(&self) -> usize {
         self.first.periods()
@@ -43,47 +62,23 @@ impl<A: Fleet, B: Fleet> Fleet for Joined<A, B> {
     }
 
     fn node(&self, row: usize) -> Result<usize, Broken> {
-        let first = self.first.size();
-        if row >= self.size() {
-            return Err(Broken {
-                rule: LENGTHS,
-                period: 0,
-            });
-        }
-        if row < first {
-            self.first.node(row)
-        } else {
-            self.second.node(row - first)
+        match self.side(row)? {
+            Side::First(own) => self.first.node(own),
+            Side::Second(own) => self.second.node(own),
         }
     }
 
-    fn verdict(&self, row: usize, marks: &[u8], outputs: &[i32]) -> Result<Grains, Broken> {
-        let first = self.first.size();
-        if row >= self.size() {
-            return Err(Broken {
-                rule: LENGTHS,
-                period: 0,
-            });
-        }
-        if row < first {
-            self.first.verdict(row, marks, outputs)
-        } else {
-            self.second.verdict(row - first, marks, outputs)
+    fn verdict(&self, row: usize, schedule: &Schedule) -> Result<Grains, Broken> {
+        match self.side(row)? {
+            Side::First(own) => self.first.verdict(own, schedule),
+            Side::Second(own) => self.second.verdict(own, schedule),
         }
     }
 
-    fn floor(&self, row: usize, net: &[i64], rise: &[i32], fall: &[i32]) -> Result<Grains, Broken> {
-        let first = self.first.size();
-        if row >= self.size() {
-            return Err(Broken {
-                rule: LENGTHS,
-                period: 0,
-            });
-        }
-        if row < first {
-            self.first.floor(row, net, rise, fall)
-        } else {
-            self.second.floor(row - first, net, rise, fall)
+    fn floor(&self, row: usize, prices: &RowPrices) -> Result<Grains, Broken> {
+        match self.side(row)? {
+            Side::First(own) => self.first.floor(own, prices),
+            Side::Second(own) => self.second.floor(own, prices),
         }
     }
 }

@@ -3,8 +3,8 @@
 
 mod fixed;
 mod joined;
+mod judging;
 mod renewables;
-mod rules;
 mod tables;
 
 pub use fixed::Fixed;

@@ -1,6 +1,7 @@
 // Renewable stations: rows whose output is limited by the power that is available.
 mod answering;
 mod making;
+mod row;
 
 ghost use Rattle.std.specs.Prelude.{◌≡◌, true};
 ghost use Rattle.kinds.specs.Renewables.{made_test, table};

@@ -9,6 +9,7 @@ use Rattle.std.specs.List.{AllAdjacentBelow, IsAllAdjacentAnswer}
 use Rattle.market.specs.Scans.{at, In, Within, InBefore, FirstOut, in_test, all_below}
 use Rattle.market.proofs.Scanning.{decides_in, decides_le}
 use Rattle.kinds.specs.declared.curve_numbers.CurveNumbers.{CurveNumbers}
+use Rattle.kinds.specs.Tables.{CurvesFit}
 use Rattle.kinds.specs.Curves.{end, price, CountFits, RangesFit, Rises, Made, Fits, made_test, lowest, highest, asked_test}
 
 -- the front of a table, told by the cells of the table
@@ -71,6 +72,10 @@ module _ (c : CurveNumbers) where
 
   pub fits : CountFits c → RangesFit c → Rises c → Fits c
   fits count ranges rises = let m : Made c = record { count = count; ranges = ranges; rises = rises } in record { test = made_told m; made = m }
+
+-- the curves of n rows
+pub decides_curves : (curve : ℕ → CurveNumbers) (n : ℕ) → Decides (all_below (λ r. made_test (curve r)) n) (CurvesFit curve n)
+decides_curves curve n = Decides-below_and (λ r. made_test (curve r)) (λ r. Made (curve r)) (all_below (λ r. made_test (curve r))) (λ r. (made_so (curve r), made_told (curve r))) refl (λ n. refl) n
 
 -- the least can be asked for: a value within its limits, and outputs from low to high on the curve
 pub record Asked (c : CurveNumbers) (v low high : ℤ) : Type 0 where

@@ -179,12 +179,6 @@ module _ (c : CurveNumbers) (made : Made c) (v : ℤ) (small : Within 2000000000
       summed x y k few f g = (omega (arith, ints), omega (arith, ints))
 
 -- ---- what the segments take off, one after another
-pub lowered_start : (c : CurveNumbers) (v low high x : ℤ) → x ≡ net_cost c v low → x ≡ net_cost c v low +ℤ total 0 (fall c v low high)
-lowered_start c v low high x e = none x (net_cost c v low) e
-  where
-    none : (x y : ℤ) → x ≡ y → x ≡ y +ℤ pos 0
-    none x y e = omega (arith, ints)
-
 pub lowered_more : (c : CurveNumbers) (v low high : ℤ) (k : ℕ) (s part : ℤ) → s ≡ net_cost c v low +ℤ total k (fall c v low high) → part ≡ fall c v low high k → s +ℤ part ≡ net_cost c v low +ℤ total (k + 1) (fall c v low high)
 lowered_more c v low high k s part e f = more s part _ _ _ _ e f (total_more k (fall c v low high))
   where

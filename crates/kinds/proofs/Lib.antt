@@ -1,4 +1,5 @@
 pub mod Telling
+pub mod Asking
 pub mod Fitting
 pub mod Verdicts
 pub mod Joining

@@ -1,5 +1,5 @@
 -- The questions of a table of renewable stations, by a test and by what they mean. Assumes nothing.
-use Rattle.std.proofs.Common.{◌≡◌, ℕ, ◌+◌, ◌-◌, ◌*◌, true, length, take, drop, ℤ, pos, Ok, Err, Decides, Result, refl, ap, arith, MatchResult}
+use Rattle.std.proofs.Common.{◌≡◌, ℕ, true, length, ℤ, pos, Ok, Err, Decides, Result, refl, arith, MatchResult}
 use Rattle.std.proofs.lemmas.Int.{ints}
 use Rattle.std.proofs.lemmas.Bool.{and_parts, and_from}
 use Rattle.std.proofs.lemmas.Bool.Decides.{Decides-below_and}
@@ -10,7 +10,7 @@ use Rattle.kinds.specs.Curves as Curves
 use Rattle.kinds.specs.Curves.{lowest}
 use Rattle.kinds.specs.Renewables.{Table, curve, power, ShapeFits, RowFits, RowsFit, NoRow, Made, Fits, Refused, rows, row_test, made_test}
 use Rattle.kinds.specs.Tables.{shape_test, CurvesFit}
-use Rattle.kinds.proofs.CurveTests as CurveTests
+use Rattle.kinds.proofs.CurveTests.{decides_curves}
 use Rattle.kinds.proofs.Shapes.{decides_shape}
 
 zero_in : (x : ℤ) → In (pos 0) (pos 0) x → x ≡ pos 0
@@ -20,10 +20,6 @@ in_zero : (x : ℤ) → x ≡ pos 0 → In (pos 0) (pos 0) x
 in_zero x e = (omega (arith, ints), omega (arith, ints))
 
 module _ (f : Table) where
-  decides_curves : Decides (all_below (λ r. Curves.made_test (curve f r)) (length f.stations)) (CurvesFit (curve f) (length f.stations))
-  decides_curves =
-      Decides-below_and (λ r. Curves.made_test (curve f r)) (λ r. Curves.Made (curve f r)) (all_below (λ r. Curves.made_test (curve f r))) (λ r. (CurveTests.made_so (curve f r), CurveTests.made_told (curve f r))) refl (λ n. refl) (length f.stations)
-
   decides_row : (r : ℕ) → Decides (row_test f r) (RowFits (curve f r) (power f r))
   decides_row r = (
     λ e.
@@ -39,11 +35,11 @@ module _ (f : Table) where
   made_so e =
       let p = and_parts (shape_test f.periods (length f.stations) (length f.available)) _ e in
       let q = and_parts (all_below (λ r. Curves.made_test (curve f r)) (length f.stations)) _ p.1 in
-      record { shape = (decides_shape _ _ _).0 p.0; curves = decides_curves.0 q.0; rows = decides_rows.0 q.1 }
+      record { shape = (decides_shape _ _ _).0 p.0; curves = (decides_curves (curve f) (length f.stations)).0 q.0; rows = decides_rows.0 q.1 }
 
   fits : ShapeFits f → CurvesFit (curve f) (length f.stations) → RowsFit f (length f.stations) → Fits f
   fits a b c = record {
-    test = and_from _ _ ((decides_shape _ _ _).1 a) (and_from _ _ (decides_curves.1 b) (decides_rows.1 c));
+    test = and_from _ _ ((decides_shape _ _ _).1 a) (and_from _ _ ((decides_curves (curve f) (length f.stations)).1 b) (decides_rows.1 c));
     made = record { shape = a; curves = b; rows = c };
   }
 
@@ -51,10 +47,3 @@ module _ (f : Table) where
   pub told : ShapeFits f → CurvesFit (curve f) (length f.stations) → (r : Result (Unit {0}) TableFault) → MatchResult r (λ _. RowsFit f (length f.stations)) (NoRow f) → MatchResult r (λ _. Fits f) (Refused f)
   told s c (Ok _) h = fits s c h
   told s c (Err e) h = rows e s c h
-
--- the part of the table that a row's questions are asked of is the row's
-pub part_is : (f : Table) (r : ℕ) → take (r * f.periods + f.periods - r * f.periods) (drop (r * f.periods) f.available) ≡ power f r
-part_is f r = ap (λ n. take n (drop (r * f.periods) f.available)) (span r f.periods)
-  where
-    span : (r n : ℕ) → r * n + n - r * n ≡ n
-    span r n = omega arith

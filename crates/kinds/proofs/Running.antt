@@ -2,7 +2,7 @@
 use Rattle.std.proofs.Common.{◌≡◌, ℕ, Bool, true, false, cond, ◌⊎◌, Some, None, Option, refl, inl, inr, arith}
 use Rattle.market.specs.Fleet.{Reserved}
 
--- the two tests of a period, passed or failed
+-- the two tests of a period, passed or failed, as `running_rule` has them
 abbrev first_broken : Bool → Bool → Option ℕ
 first_broken mark output = cond mark (cond output None (Some 11)) (Some 10)
 

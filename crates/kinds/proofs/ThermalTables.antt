@@ -9,7 +9,7 @@ use Rattle.kinds.specs.Curves as Curves
 use Rattle.kinds.specs.Tables.{PeriodsFit, CurvesFit}
 use Rattle.kinds.specs.Thermal.{NumbersFit, unit}
 use Rattle.kinds.specs.ThermalTables.{Table, Made, curve, RowsFit, Fits, costs_test, times_test, ramps_test, limits_test, state_test, numbers_test, made_test}
-use Rattle.kinds.proofs.CurveTests as Making
+use Rattle.kinds.proofs.CurveTests.{decides_curves}
 use Rattle.kinds.proofs.Sequences.{mark_of}
 use Rattle.kinds.proofs.ThermalLaws.{stopped_told, running_told, output_passes, laws}
 
@@ -60,10 +60,6 @@ module _ (u : ThermalUnit) where
   decides_numbers = (numbers_so, so_numbers)
 
 module _ (f : Table) where
-  decides_curves : Decides (all_below (λ r. Curves.made_test (curve f.units r)) (length f.units)) (CurvesFit (curve f.units) (length f.units))
-  decides_curves =
-      Decides-below_and (λ r. Curves.made_test (curve f.units r)) (λ r. Curves.Made (curve f.units r)) (all_below (λ r. Curves.made_test (curve f.units r))) (λ r. (Making.made_so (curve f.units r), Making.made_told (curve f.units r))) refl (λ n. refl) (length f.units)
-
   decides_rows : Decides (all_below (λ r. numbers_test (unit f.units r)) (length f.units)) (RowsFit f.units (length f.units))
   decides_rows = Decides-below_and (λ r. numbers_test (unit f.units r)) (λ r. NumbersFit (unit f.units r)) (all_below (λ r. numbers_test (unit f.units r))) (λ r. decides_numbers (unit f.units r)) refl (λ n. refl) (length f.units)
 
@@ -75,12 +71,12 @@ module _ (f : Table) where
       record {
         day = (decides_from_to 1 96 f.periods).0 p.0;
         few = leb-true _ _ q.0;
-        rows = λ r h. record { curve = decides_curves.0 rows.0 r h; numbers = decides_rows.0 rows.1 r h };
+        rows = λ r h. record { curve = (decides_curves (curve f.units) (length f.units)).0 rows.0 r h; numbers = decides_rows.0 rows.1 r h };
       }
 
   pub fits : PeriodsFit f.periods → length f.units ≤ 32 → CurvesFit (curve f.units) (length f.units) → RowsFit f.units (length f.units) → Fits f
   fits day few curves rows = record {
-    test = and_from _ _ ((decides_from_to 1 96 f.periods).1 day) (and_from _ _ (le-leb _ _ few) (and_from _ _ (decides_curves.1 curves) (decides_rows.1 rows)));
+    test = and_from _ _ ((decides_from_to 1 96 f.periods).1 day) (and_from _ _ (le-leb _ _ few) (and_from _ _ ((decides_curves (curve f.units) (length f.units)).1 curves) (decides_rows.1 rows)));
     made = record { day = day; few = few; rows = λ r h. record { curve = curves r h; numbers = rows r h } };
     laws = laws f.periods f.units (λ r h. record { curve = curves r h; numbers = rows r h });
   }

@@ -54,3 +54,9 @@ module _ (rule : ℕ → Option ℕ) (cost : ℕ → ℤ) where
 
   pub judged_broken : (n t k : ℕ) (c : Grains) → t < n → LawfulAt rule cost t c → rule t ≡ Some k → Judged rule cost n (Err (broken k (t + 1)))
   judged_broken n t k c h l is = judged_so n _ (breaks t k h l.keeps is)
+
+-- rules and costs that are the same in each of n periods give the same verdict
+pub verdict_same : (rule other : ℕ → Option ℕ) (cost price : ℕ → ℤ) (n : ℕ) → ((t : ℕ) → t < n → rule t ≡ other t) → ((t : ℕ) → t < n → cost t ≡ price t) → verdict_over rule cost n ≡ verdict_over other price n
+verdict_same rule other cost price zero h k = refl
+verdict_same rule other cost price (suc n) h k =
+    λ j. and_then (verdict_same rule other cost price n (λ t l. h t (omega arith)) (λ t l. k t (omega arith)) j) (h n (omega arith) j) (k n (omega arith) j) n

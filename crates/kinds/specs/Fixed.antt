@@ -1,11 +1,12 @@
 -- Fixed schedules: a table of them, when it is one, and what it means as a fleet. Assumes nothing.
-use Rattle.std.specs.Prelude.{◌≡◌, ℕ, ◌+◌, ◌*◌, ◌<◌, Bool, true, cond, ◌&&◌, List, [], length, ℤ, pos, ◌-ℤ◌, ◌*ℤ◌, neg_ℤ, Some, None, Option, ◌==◌, slice_index}
+use Rattle.std.specs.Prelude.{◌≡◌, ℕ, ◌+◌, ◌*◌, ◌<◌, Bool, true, ◌&&◌, List, [], length, ℤ, pos, ◌-ℤ◌, ◌*ℤ◌, neg_ℤ, Option, slice_index}
 use Rattle.measures.specs.Amounts.{grains}
 use Rattle.market.specs.Fleet.{Meaning, Schedule}
 use Rattle.market.specs.Scans.{at, in_test, InBefore, FirstOut, in_all}
 use Rattle.market.specs.Totals.{total}
 use Rattle.kinds.specs.declared.table_fault.TableFault.{TableFault}
 use Rattle.kinds.specs.declared.table_fault.TableFault.TheVariants.{Cell}
+use Rattle.kinds.specs.Rules.{running_rule}
 use Rattle.kinds.specs.Tables.{Shaped, Unshaped, shape_test}
 use Rattle.kinds.specs.Verdicts.{verdict_over}
 
@@ -57,9 +58,9 @@ fixed_at f r t = at f.outputs (r * f.periods + t)
 abbrev pub is_test : ℤ → ℤ → Bool
 is_test x y = in_test x x y
 
--- the first rule that a period breaks, if any: 10, the mark is 1; 11, the output is the fixed one
+-- the first rule that a period breaks, if any: the output is the fixed one
 abbrev pub rule_in : ℤ → ℕ → ℤ → Option ℕ
-rule_in fixed mark output = cond (mark == 1) (cond (is_test fixed output) None (Some 11)) (Some 10)
+rule_in fixed mark output = running_rule mark (is_test fixed output)
 
 -- the same in period t of row r's schedule
 abbrev pub rule_at : Table → ℕ → Schedule → ℕ → Option ℕ

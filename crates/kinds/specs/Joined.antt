@@ -1,6 +1,11 @@
 -- Two fleets as one. Assumes nothing.
 use Rattle.std.specs.Prelude.{ℕ, ◌+◌, ◌-◌, Bool, cond, ◌&&◌, ◌==◌, nat_le, nat_lt}
+use Rattle.market.specs.declared.fleet.Fleet.{Ghosts}
 use Rattle.market.specs.Fleet.{Meaning}
+
+-- what a fleet means, from the ghost members of its bound
+abbrev pub meaning : {F : Type 0} → Ghosts F → F → Meaning
+meaning fleet f = record { periods = fleet.periods f; size = fleet.size f; node = fleet.node f; verdict = fleet.verdict f; floor = fleet.floor f }
 
 -- two fleets join when they have the same periods and at most 32 rows together
 abbrev pub join_test : Meaning → Meaning → Bool

@@ -1,5 +1,5 @@
 -- Renewable stations: a table of them, when it is one, and what it means as a fleet. Assumes nothing.
-use Rattle.std.specs.Prelude.{◌≡◌, ℕ, ◌+◌, ◌<◌, Bool, true, cond, ◌&&◌, List, [], length, ℤ, pos, Some, None, Option, ◌==◌, ◌≢◌, slice_index, slice_index_or}
+use Rattle.std.specs.Prelude.{◌≡◌, ℕ, ◌+◌, ◌<◌, Bool, true, ◌&&◌, List, [], length, ℤ, pos, Option, ◌≢◌, slice_index, slice_index_or}
 use Rattle.std.specs.Int.{int_min}
 use Rattle.measures.specs.Amounts.{grains}
 use Rattle.market.specs.Clearing.{part}
@@ -13,6 +13,7 @@ use Rattle.kinds.specs.declared.table_fault.TableFault.TheVariants.{Row, Cell}
 use Rattle.kinds.specs.Curves as Curves
 use Rattle.kinds.specs.Curves.{lowest, highest, running_cost, net_cost}
 use Rattle.kinds.specs.Leasts.{least_over}
+use Rattle.kinds.specs.Rules.{running_rule}
 use Rattle.kinds.specs.Tables.{Shaped, Unshaped, shape_test, CurvesFit, NoCurve}
 use Rattle.kinds.specs.Verdicts.{verdict_over}
 
@@ -94,17 +95,17 @@ pub data Refused (f : Table) : TableFault → Type 0 where
   curves : (e : TableFault) → ShapeFits f → NoCurve (curve f) (length f.stations) e → Refused f e
   rows : (e : TableFault) → ShapeFits f → CurvesFit (curve f) (length f.stations) → NoRow f e → Refused f e
 
--- the power available to row r in period t; periods count from 0 here
-abbrev pub available_at : Table → ℕ → ℕ → ℤ
-available_at f r t = at (power f r) t
+-- the most that a row may feed in in period t: the smaller of what is available and the curve's last end; periods count from 0 here
+abbrev pub most_of : CurveNumbers → List ℤ → ℕ → ℤ
+most_of c power t = int_min (at power t) (highest c)
 
--- the most that row r may feed in in period t: the smaller of what is available and the curve's last end
+-- the same for row r
 abbrev pub most : Table → ℕ → ℕ → ℤ
-most f r t = int_min (available_at f r t) (highest (curve f r))
+most f r t = most_of (curve f r) (power f r) t
 
--- the first rule that a period breaks, if any: 10, the mark is 1; 11, the output is 0 to the most
+-- the first rule that a period breaks, if any: the output is 0 to the most
 abbrev pub rule_in : ℤ → ℕ → ℤ → Option ℕ
-rule_in most mark output = cond (mark == 1) (cond (in_test (pos 0) most output) None (Some 11)) (Some 10)
+rule_in most mark output = running_rule mark (in_test (pos 0) most output)
 
 -- the same for period t of a schedule of row r
 abbrev pub rule_at : Table → ℕ → Schedule → ℕ → Option ℕ
@@ -114,9 +115,13 @@ rule_at f r s t = rule_in (most f r t) (slice_index s.marks t) (at s.outputs t)
 abbrev pub cost_at : Table → ℕ → Schedule → ℕ → ℤ
 cost_at f r s t = running_cost (curve f r) (at s.outputs t)
 
--- the least of running cost less worth over the outputs that row r may have in period t, at the net price v
+-- the least of running cost less worth over the outputs that a row may have in period t, at the net price v
+abbrev pub least_of : CurveNumbers → List ℤ → ℕ → ℤ → ℤ
+least_of c power t v = least_over (pos 0) (most_of c power t) (net_cost c v)
+
+-- the same for row r
 abbrev pub least_at : Table → ℕ → ℕ → ℤ → ℤ
-least_at f r t v = least_over (pos 0) (most f r t) (net_cost (curve f r) v)
+least_at f r t v = least_of (curve f r) (power f r) t v
 
 -- a schedule costs its running costs, and the floor is the sum of the leasts at the net prices
 abbrev pub renewables : Table → Meaning

@@ -18,6 +18,7 @@ pub struct ThermalUnit {
     pub start_limit: i32,
     pub stop_limit: i32,
     // The state before the day: the mark (1 running, 0 stopped), how many periods it has lasted, and the output in tenths of a megawatt.
+    // The mark is a number, since records are handed in as they come and asked later.
     pub mark: u8,
     pub lasted: usize,
     pub output: i32,

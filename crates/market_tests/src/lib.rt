@@ -5,21 +5,25 @@
 mod tests {
     use fleets::{Fixed, Joined, Renewables};
     use kinds::{Curve, CurveNumbers, Station};
-    use market::{Day, DayNumbers, Plan, PriceSet, Refusal, bound, judge};
+    use market::{Day, DayNumbers, Fault, Plan, PriceSet, Refusal, bound, judge};
     use measures::{Grains, NetPrice, Tenths};
 
     // Number, place and period of a refusal, or 0 and then the amount.
     #[derive(Clone, Copy, PartialEq, Eq, Debug)]
     struct Answer(u8, usize, usize, i64);
 
-    fn told(answer: Result<Grains, Refusal>) -> Answer {
+    fn told(answer: Result<Grains, Answer>) -> Answer {
         match answer {
             Ok(amount) => Answer(0, 0, 0, amount.0),
-            Err(refusal) => Answer(refusal.number, refusal.place, refusal.period, 0),
+            Err(no) => no,
         }
     }
 
-    fn refused(refusal: Refusal) -> Answer {
+    fn refused(fault: impl Fault + Drop) -> Answer {
+        Answer(fault.number(), fault.place(), fault.period(), 0)
+    }
+
+    fn refusal(refusal: Refusal) -> Answer {
         Answer(refusal.number, refusal.place, refusal.period, 0)
     }
 
@@ -47,14 +51,10 @@ mod tests {
 
     const AVAILABLE: [i32; 2] = [200, 250];
 
-    fn judged<'a>(
-        lower: &'a [i32],
-        upper: &'a [i32],
-        marks: &'a [u8],
-        outputs: &'a [i32],
-    ) -> Answer {
+    // The day of two periods, three nodes and two lines, with these limits.
+    fn made<'a>(lower: &'a [i32], upper: &'a [i32]) -> Result<Day<'a>, Answer> {
         let mut day = Day::smallest();
-        if let Err(refusal) = day.make(DayNumbers {
+        day.make(DayNumbers {
             periods: 2,
             nodes: 3,
             lines: 2,
@@ -62,18 +62,26 @@ mod tests {
             factors: &FACTORS,
             lower,
             upper,
-        }) {
-            return refused(refusal);
-        }
+        })
+        .map_err(refusal)?;
+        Ok(day)
+    }
+
+    // The three rows.
+    fn rows<'a>() -> Result<Joined<Fixed<'a>, Renewables<'a>>, Answer> {
         let mut first = Fixed::none();
-        if let Err(refusal) = first.make(2, &NODES, &FIXED) {
-            return refused(refusal);
-        }
+        first.make(2, &NODES, &FIXED).map_err(refused)?;
         let mut second = Renewables::none();
-        if let Err(refusal) = second.make(2, &STATIONS, &AVAILABLE) {
-            return refused(refusal);
-        }
-        told(judge(&day, &Joined { first, second }, &Plan { marks, outputs }))
+        second.make(2, &STATIONS, &AVAILABLE).map_err(refused)?;
+        Ok(Joined { first, second })
+    }
+
+    fn cost(lower: &[i32], upper: &[i32], marks: &[u8], outputs: &[i32]) -> Result<Grains, Answer> {
+        judge(&made(lower, upper)?, &rows()?, &Plan { marks, outputs }).map_err(refusal)
+    }
+
+    fn judged(lower: &[i32], upper: &[i32], marks: &[u8], outputs: &[i32]) -> Answer {
+        told(cost(lower, upper, marks, outputs))
     }
 
     #[test]
@@ -152,30 +160,10 @@ mod tests {
         );
     }
 
-    fn bounded<'a>(system: &'a [i32], upper: &'a [i32], fall: &'a [i32]) -> Answer {
-        let mut day = Day::smallest();
-        if let Err(refusal) = day.make(DayNumbers {
-            periods: 2,
-            nodes: 3,
-            lines: 2,
-            loads: &LOADS,
-            factors: &FACTORS,
-            lower: &LOWER,
-            upper: &UPPER,
-        }) {
-            return refused(refusal);
-        }
-        let mut first = Fixed::none();
-        if let Err(refusal) = first.make(2, &NODES, &FIXED) {
-            return refused(refusal);
-        }
-        let mut second = Renewables::none();
-        if let Err(refusal) = second.make(2, &STATIONS, &AVAILABLE) {
-            return refused(refusal);
-        }
-        told(bound(
-            &day,
-            &Joined { first, second },
+    fn floor(system: &[i32], upper: &[i32], fall: &[i32]) -> Result<Grains, Answer> {
+        bound(
+            &made(&LOWER, &UPPER)?,
+            &rows()?,
             &PriceSet {
                 system,
                 upper,
@@ -183,7 +171,12 @@ mod tests {
                 rise: &[0; 6],
                 fall,
             },
-        ))
+        )
+        .map_err(refusal)
+    }
+
+    fn bounded(system: &[i32], upper: &[i32], fall: &[i32]) -> Answer {
+        told(floor(system, upper, fall))
     }
 
     #[test]
@@ -215,9 +208,9 @@ mod tests {
     }
 
     // A day of two periods and one node, which feeds in 20,000 in the first; its fleet has two fixed rows.
-    fn fitted(periods: usize, outputs: &[i32], count: usize) -> Answer {
+    fn fitting(periods: usize, outputs: &[i32], count: usize) -> Result<Grains, Answer> {
         let mut day = Day::smallest();
-        if let Err(refusal) = day.make(DayNumbers {
+        day.make(DayNumbers {
             periods: 2,
             nodes: count,
             lines: 0,
@@ -225,21 +218,19 @@ mod tests {
             factors: &[],
             lower: &[],
             upper: &[],
-        }) {
-            return refused(refusal);
-        }
+        })
+        .map_err(refusal)?;
         let mut fleet = Fixed::none();
-        if let Err(refusal) = fleet.make(periods, &[0, 1], outputs) {
-            return refused(refusal);
-        }
-        told(judge(
-            &day,
-            &fleet,
-            &Plan {
-                marks: &[1, 1, 1, 1],
-                outputs,
-            },
-        ))
+        fleet.make(periods, &[0, 1], outputs).map_err(refused)?;
+        let plan = Plan {
+            marks: &[1, 1, 1, 1],
+            outputs,
+        };
+        judge(&day, &fleet, &plan).map_err(refusal)
+    }
+
+    fn fitted(periods: usize, outputs: &[i32], count: usize) -> Answer {
+        told(fitting(periods, outputs, count))
     }
 
     #[test]
@@ -267,12 +258,12 @@ mod tests {
 
     // The first no of a curve of these numbers, with the least of running cost less 15,000,000 a tenth from low to high where there is none.
     fn curved(numbers: CurveNumbers, low: i32, high: i32) -> Answer {
-        match Curve::make(&numbers) {
+        match Curve::try_from(&numbers) {
             Ok(curve) => match curve.least(NetPrice(15_000_000), Tenths(low), Tenths(high)) {
                 Some(least) => Answer(0, 0, 0, least.0),
                 None => Answer(0, 1, 0, curve.running_cost(Tenths(high)).0),
             },
-            Err(refusal) => refused(refusal),
+            Err(fault) => refused(fault),
         }
     }
 

@@ -1,84 +1,46 @@
 // A table of fixed schedules as a fleet.
-ghost use Rattle.std.specs.Prelude.{◌≡◌, ℕ, ◌<◌, length, pos, ◌*ℤ◌};
-ghost use Rattle.market.specs.Fleet.{priced_answer};
-ghost use Rattle.market.specs.Scans.{Within, at};
-ghost use Rattle.market.specs.Totals.{total};
-ghost use Rattle.kinds.specs.Fixed.{fixed, fixed_at, rule_at};
-ghost use Rattle.kinds.specs.Verdicts.{Judged};
+ghost use Rattle.std.specs.Prelude.{◌≡◌, ◌<◌, length};
+ghost use Rattle.market.specs.Clearing.{part};
+ghost use Rattle.market.specs.Fleet.{schedule_of, row_prices_of, floor_answer};
+ghost use Rattle.kinds.specs.Fixed.{fixed};
 ghost use Rattle.kinds.proofs.FixedRows.{fixed_shows};
 ghost use Rattle.kinds.proofs.FixedTables.{made_so};
 ghost use Rattle.fleets.specs.Held.{rows_of};
 
 use crate::fixed::Fixed;
-use crate::rules::{LENGTHS, MARK, OUTPUT, RUNNING};
-use market::{Broken, Fleet, price_fault};
-use measures::{Grains, NetPrice, Tenths};
+use crate::fixed::row::Row;
+use crate::judging::judged;
+use market::{Broken, Fleet, RowPrices, Schedule, prices_asked, row_asked, schedule_asked};
+use measures::Grains;
 
 impl Fixed<'_> {
-    // The output that a row has in a period; periods count from 0 here.
-    fn output(&self, row: usize, period: usize) -> i32
-        requires { (row < length self.now.nodes.now) × (period < self.now.periods) }
-        ensures { result ≡ fixed_at (rows_of self.now) row period }
+    // The row by itself: its part of the outputs.
+    fn row(&self, row: usize) -> Row<'_>
+        requires { row < length self.now.nodes.now }
+        ensures { result.outputs.now ≡ part self.now.periods row self.now.outputs.now }
     {
-        self.outputs[row * self.periods + period]
+        let start = row * self.periods;
+        Row {
+            outputs: &self.outputs[start..start + self.periods],
+        }
     }
 
-    // The first rule that a row's schedule breaks in a period, if any.
-    fn rule(&self, row: usize, period: usize, marks: &[u8], outputs: &[i32]) -> Option<u8>
-        requires place { (row < length self.now.nodes.now) × (period < self.now.periods) }
-        requires lengths { (length marks.now ≡ self.now.periods) × (length outputs.now ≡ self.now.periods) }
-        ensures { result ≡ rule_at (rows_of self.now) row (record { marks = marks.now; outputs = outputs.now }) period }
-    {
-        if marks[period] != RUNNING {
-            return Some(MARK);
-        }
-        if outputs[period] != self.output(row, period) {
-            return Some(OUTPUT);
-        }
-        None
-    }
-
-    // The verdict on a row's schedule, period by period: a lawful one costs nothing.
-    fn judged(&self, row: usize, marks: &[u8], outputs: &[i32]) -> Result<Grains, Broken>
+    // The verdict on a row's schedule: a lawful one costs nothing.
+    fn judged(&self, row: usize, schedule: &Schedule) -> Result<Grains, Broken>
         requires row { row < length self.now.nodes.now }
-        requires lengths { (length marks.now ≡ self.now.periods) × (length outputs.now ≡ self.now.periods) }
-        ensures { Judged (rule_at (rows_of self.now) row (record { marks = marks.now; outputs = outputs.now })) (λ _. pos 0) self.now.periods result }
+        requires marks { length schedule.now.marks.now ≡ self.now.periods }
+        requires outputs { length schedule.now.outputs.now ≡ self.now.periods }
+        ensures { result ≡ (fixed (rows_of self.now)).verdict row (schedule_of schedule.now) }
     {
-        for period in 0..self.periods {
-            match self.rule(row, period, marks, outputs) {
-                Some(rule) => return Err(Broken {
-                    rule,
-                    period: period + 1,
-                }),
-                None => {}
-            }
-        }
-        Ok(Grains(0))
+        judged(&self.row(row), schedule)
     }
 
-    // What a row's fixed outputs earn at the net prices.
-    fn earned(&self, row: usize, net: &[i64]) -> Grains
-        requires row { (row < length self.now.nodes.now) × (length net.now ≡ self.now.periods) }
-        requires limits { (t : ℕ) → t < self.now.periods → Within 17000000000 (at net.now t) }
-        ensures { result.0 ≡ total self.now.periods (λ t. at net.now t *ℤ fixed_at (rows_of self.now) row t) }
+    // The row's floor, minus what its outputs earn, or the first no.
+    fn priced(&self, row: usize, prices: &RowPrices) -> Result<Grains, Broken>
+        ensures { result ≡ floor_answer (fixed (rows_of self.now)) row (row_prices_of prices.now) }
     {
-        let mut all = Grains(0);
-        for period in 0..self.periods {
-            all = all + NetPrice(net[period]) * Tenths(self.output(row, period));
-        }
-        all
-    }
-
-    // The row's floor, or the first price outside its limits.
-    fn priced(&self, row: usize, net: &[i64], rise: &[i32], fall: &[i32]) -> Result<Grains, Broken>
-        requires row { row < length self.now.nodes.now }
-        requires lengths { (length net.now ≡ self.now.periods) × ((length rise.now ≡ self.now.periods) × (length fall.now ≡ self.now.periods)) }
-        ensures { result ≡ priced_answer (record { net = net.now; rise = rise.now; fall = fall.now }) ((fixed (rows_of self.now)).floor row (record { net = net.now; rise = rise.now; fall = fall.now })) }
-    {
-        match price_fault(net, rise, fall) {
-            Some(broken) => Err(broken),
-            None => Ok(Grains(0) - self.earned(row, net)),
-        }
+        prices_asked(row, self.nodes.len(), self.periods, prices)?;
+        Ok(Grains(0) - self.row(row).earned(prices.net))
     }
 }
 
@@ -104,36 +66,16 @@ impl Fleet for Fixed<'_> {
     }
 
     fn node(&self, row: usize) -> Result<usize, Broken> {
-        if row >= self.nodes.len() {
-            return Err(Broken {
-                rule: LENGTHS,
-                period: 0,
-            });
-        }
+        row_asked(row, self.size())?;
         Ok(self.nodes[row])
     }
 
-    fn verdict(&self, row: usize, marks: &[u8], outputs: &[i32]) -> Result<Grains, Broken> {
-        if row >= self.nodes.len() || marks.len() != self.periods || outputs.len() != self.periods {
-            return Err(Broken {
-                rule: LENGTHS,
-                period: 0,
-            });
-        }
-        self.judged(row, marks, outputs)
+    fn verdict(&self, row: usize, schedule: &Schedule) -> Result<Grains, Broken> {
+        schedule_asked(row, self.size(), self.periods, schedule)?;
+        self.judged(row, schedule)
     }
 
-    fn floor(&self, row: usize, net: &[i64], rise: &[i32], fall: &[i32]) -> Result<Grains, Broken> {
-        if row >= self.nodes.len()
-            || net.len() != self.periods
-            || rise.len() != self.periods
-            || fall.len() != self.periods
-        {
-            return Err(Broken {
-                rule: LENGTHS,
-                period: 0,
-            });
-        }
-        self.priced(row, net, rise, fall)
+    fn floor(&self, row: usize, prices: &RowPrices) -> Result<Grains, Broken> {
+        self.priced(row, prices)
     }
 }

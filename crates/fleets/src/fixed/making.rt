@@ -1,29 +1,26 @@
 // Making a table of fixed schedules: its questions in order.
-ghost use Rattle.std.specs.Prelude.{◌≡◌, is_ok, if◌then◌else◌, MatchOption, MatchResult};
+ghost use Rattle.std.specs.Prelude.{◌≡◌, is_ok, if◌then◌else◌, MatchResult};
 ghost use Rattle.kinds.specs.Fixed.{table, no_rows, Made, Fits, Refused};
 ghost use Rattle.fleets.specs.Held.{rows_of};
 
 use crate::fixed::Fixed;
-use crate::rules::RANGES;
-use crate::tables::shape_fault;
-use market::{Refusal, outside};
+use crate::tables::shape_fits;
+use kinds::TableFault;
+use market::outside;
 
 const MOST_OUTPUT: i32 = 20_000;
 
 // The first question that has the answer no.
-fn first_no(periods: usize, nodes: &[usize], outputs: &[i32]) -> Option<Refusal>
-    ensures { MatchOption result (Fits (table periods nodes.now outputs.now)) (λ e. Refused (table periods nodes.now outputs.now) e) }
+fn first_no(periods: usize, nodes: &[usize], outputs: &[i32]) -> Result<(), TableFault>
+    ensures { MatchResult result (λ _. Fits (table periods nodes.now outputs.now)) (λ e. Refused (table periods nodes.now outputs.now) e) }
 {
-    if let Some(refusal) = shape_fault(periods, nodes.len(), outputs.len()) {
-        return Some(refusal);
-    }
+    shape_fits(periods, nodes.len(), outputs.len())?;
     match outside(outputs, -MOST_OUTPUT, MOST_OUTPUT) {
-        Some(i) => Some(Refusal {
-            number: RANGES,
-            place: i / periods,
-            period: i % periods + 1,
+        Some(cell) => Err(TableFault::Cell {
+            row: cell / periods,
+            period: cell % periods + 1,
         }),
-        None => None,
+        None => Ok(()),
     }
 }
 
@@ -45,20 +42,16 @@ impl<'a> Fixed<'a> {
         periods: usize,
         nodes: &'a [usize],
         outputs: &'a [i32],
-    ) -> Result<(), Refusal>
+    ) -> Result<(), TableFault>
         ensures answer { MatchResult result (λ _. Made (table periods nodes.now outputs.now)) (λ e. Refused (table periods nodes.now outputs.now) e) }
         ensures held { rows_of self.new ≡ (if is_ok result then table periods nodes.now outputs.now else rows_of self.old) }
     {
-        match first_no(periods, nodes, outputs) {
-            Some(refusal) => Err(refusal),
-            None => {
-                *self = Fixed {
-                    periods,
-                    nodes,
-                    outputs,
-                };
-                Ok(())
-            }
-        }
+        first_no(periods, nodes, outputs)?;
+        *self = Fixed {
+            periods,
+            nodes,
+            outputs,
+        };
+        Ok(())
     }
 }

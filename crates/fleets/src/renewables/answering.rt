@@ -1,123 +1,50 @@
 // A table of renewable stations as a fleet.
-ghost use Rattle.std.specs.Prelude.{◌≡◌, ℕ, ◌<◌, length};
-ghost use Rattle.measures.specs.Amounts.{grains};
-ghost use Rattle.market.specs.Fleet.{priced_answer};
-ghost use Rattle.market.specs.Scans.{Within, at};
-ghost use Rattle.market.specs.Totals.{total};
-ghost use Rattle.kinds.specs.Curves.{running_cost};
-ghost use Rattle.kinds.specs.Renewables.{curve, most, rule_at, cost_at, least_at, renewables};
-ghost use Rattle.kinds.specs.Verdicts.{Judged};
+ghost use Rattle.std.specs.Prelude.{◌≡◌, ◌<◌, length};
+ghost use Rattle.market.specs.Fleet.{schedule_of, row_prices_of, floor_answer};
+ghost use Rattle.kinds.specs.Renewables.{curve, power, renewables};
 ghost use Rattle.kinds.proofs.RenewableRows.{renewables_show};
 ghost use Rattle.kinds.proofs.RenewableTables.{made_so};
 ghost use Rattle.fleets.specs.Held.{stations_of};
 
+use crate::judging::judged;
 use crate::renewables::Renewables;
-use crate::rules::{LENGTHS, MARK, OUTPUT, RUNNING};
+use crate::renewables::row::Row;
 use kinds::Curve;
-use market::{Broken, Fleet, price_fault};
-use measures::{Grains, NetPrice, Tenths};
+use market::{Broken, Fleet, RowPrices, Schedule, prices_asked, row_asked, schedule_asked};
+use measures::Grains;
 
 impl Renewables<'_> {
-    fn curve(&self, row: usize) -> Curve
+    // The row by itself: its curve, and its part of the available power.
+    fn row(&self, row: usize) -> Row<'_>
         requires { row < length self.now.stations.now }
-        ensures { result.numbers ≡ curve (stations_of self.now) row }
+        ensures curve { result.curve.numbers ≡ curve (stations_of self.now) row }
+        ensures available { result.available.now ≡ power (stations_of self.now) row }
     {
-        Curve {
-            numbers: self.stations[row].curve,
+        let start = row * self.periods;
+        Row {
+            curve: Curve {
+                numbers: self.stations[row].curve,
+            },
+            available: &self.available[start..start + self.periods],
         }
     }
 
-    // The most that a row may feed in in a period; periods count from 0 here.
-    fn most(&self, row: usize, period: usize) -> Tenths
-        requires { (row < length self.now.stations.now) × (period < self.now.periods) }
-        ensures { result.0 ≡ most (stations_of self.now) row period }
-    {
-        let highest = self.curve(row).highest();
-        Tenths(self.available[row * self.periods + period].min(highest.0))
-    }
-
-    // The first rule that a row's schedule breaks in a period, if any.
-    fn rule(&self, row: usize, period: usize, marks: &[u8], outputs: &[i32]) -> Option<u8>
-        requires place { (row < length self.now.stations.now) × (period < self.now.periods) }
-        requires lengths { (length marks.now ≡ self.now.periods) × (length outputs.now ≡ self.now.periods) }
-        ensures { result ≡ rule_at (stations_of self.now) row (record { marks = marks.now; outputs = outputs.now }) period }
-    {
-        if marks[period] != RUNNING {
-            return Some(MARK);
-        }
-        let most = self.most(row, period);
-        if 0 <= outputs[period] && outputs[period] <= most.0 {
-            None
-        } else {
-            Some(OUTPUT)
-        }
-    }
-
-    // What an output of a row costs in a period.
-    fn cost(&self, row: usize, output: i32) -> Grains
-        requires { row < length self.now.stations.now }
-        ensures { result.0 ≡ running_cost (curve (stations_of self.now) row) output }
-    {
-        self.curve(row).running_cost(Tenths(output))
-    }
-
-    // The least of running cost less worth over the outputs that a row may have in a period.
-    fn least(&self, row: usize, period: usize, value: NetPrice) -> Grains
-        requires place { (row < length self.now.stations.now) × (period < self.now.periods) }
-        requires limit { Within 17000000000 value.0 }
-        ensures { result.0 ≡ least_at (stations_of self.now) row period value.0 }
-    {
-        match self
-            .curve(row)
-            .least(value, Tenths(0), self.most(row, period))
-        {
-            Some(least) => least,
-            None => unreachable(),
-        }
-    }
-
-    // The verdict on a row's schedule, period by period: a lawful one costs its running costs.
-    fn judged(&self, row: usize, marks: &[u8], outputs: &[i32]) -> Result<Grains, Broken>
+    // The verdict on a row's schedule: a lawful one costs its running costs.
+    fn judged(&self, row: usize, schedule: &Schedule) -> Result<Grains, Broken>
         requires row { row < length self.now.stations.now }
-        requires lengths { (length marks.now ≡ self.now.periods) × (length outputs.now ≡ self.now.periods) }
-        ensures { Judged (rule_at (stations_of self.now) row (record { marks = marks.now; outputs = outputs.now })) (cost_at (stations_of self.now) row (record { marks = marks.now; outputs = outputs.now })) self.now.periods result }
+        requires marks { length schedule.now.marks.now ≡ self.now.periods }
+        requires outputs { length schedule.now.outputs.now ≡ self.now.periods }
+        ensures { result ≡ (renewables (stations_of self.now)).verdict row (schedule_of schedule.now) }
     {
-        let mut cost = Grains(0);
-        for period in 0..self.periods {
-            match self.rule(row, period, marks, outputs) {
-                Some(rule) => return Err(Broken {
-                    rule,
-                    period: period + 1,
-                }),
-                None => cost = cost + self.cost(row, outputs[period]),
-            }
-        }
-        Ok(cost)
+        judged(&self.row(row), schedule)
     }
 
-    // The leasts of a row's periods at the net prices.
-    fn leasts(&self, row: usize, net: &[i64]) -> Grains
-        requires row { (row < length self.now.stations.now) × (length net.now ≡ self.now.periods) }
-        requires limits { (t : ℕ) → t < self.now.periods → Within 17000000000 (at net.now t) }
-        ensures { result ≡ grains (total self.now.periods (λ t. least_at (stations_of self.now) row t (at net.now t))) }
+    // The row's floor, the leasts of its periods, or the first no.
+    fn priced(&self, row: usize, prices: &RowPrices) -> Result<Grains, Broken>
+        ensures { result ≡ floor_answer (renewables (stations_of self.now)) row (row_prices_of prices.now) }
     {
-        let mut all = Grains(0);
-        for period in 0..self.periods {
-            all = all + self.least(row, period, NetPrice(net[period]));
-        }
-        all
-    }
-
-    // The row's floor, or the first price outside its limits.
-    fn priced(&self, row: usize, net: &[i64], rise: &[i32], fall: &[i32]) -> Result<Grains, Broken>
-        requires row { row < length self.now.stations.now }
-        requires lengths { (length net.now ≡ self.now.periods) × ((length rise.now ≡ self.now.periods) × (length fall.now ≡ self.now.periods)) }
-        ensures { result ≡ priced_answer (record { net = net.now; rise = rise.now; fall = fall.now }) ((renewables (stations_of self.now)).floor row (record { net = net.now; rise = rise.now; fall = fall.now })) }
-    {
-        match price_fault(net, rise, fall) {
-            Some(broken) => Err(broken),
-            None => Ok(self.leasts(row, net)),
-        }
+        prices_asked(row, self.stations.len(), self.periods, prices)?;
+        Ok(self.row(row).leasts(prices.net))
     }
 }
 
@@ -143,39 +70,16 @@ impl Fleet for Renewables<'_> {
     }
 
     fn node(&self, row: usize) -> Result<usize, Broken> {
-        if row >= self.stations.len() {
-            return Err(Broken {
-                rule: LENGTHS,
-                period: 0,
-            });
-        }
+        row_asked(row, self.size())?;
         Ok(self.stations[row].node)
     }
 
-    fn verdict(&self, row: usize, marks: &[u8], outputs: &[i32]) -> Result<Grains, Broken> {
-        if row >= self.stations.len()
-            || marks.len() != self.periods
-            || outputs.len() != self.periods
-        {
-            return Err(Broken {
-                rule: LENGTHS,
-                period: 0,
-            });
-        }
-        self.judged(row, marks, outputs)
+    fn verdict(&self, row: usize, schedule: &Schedule) -> Result<Grains, Broken> {
+        schedule_asked(row, self.size(), self.periods, schedule)?;
+        self.judged(row, schedule)
     }
 
-    fn floor(&self, row: usize, net: &[i64], rise: &[i32], fall: &[i32]) -> Result<Grains, Broken> {
-        if row >= self.stations.len()
-            || net.len() != self.periods
-            || rise.len() != self.periods
-            || fall.len() != self.periods
-        {
-            return Err(Broken {
-                rule: LENGTHS,
-                period: 0,
-            });
-        }
-        self.priced(row, net, rise, fall)
+    fn floor(&self, row: usize, prices: &RowPrices) -> Result<Grains, Broken> {
+        self.priced(row, prices)
     }
 }

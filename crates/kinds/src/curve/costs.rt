@@ -41,7 +41,8 @@ impl Curve {
         Tenths(output.0.clamp(from, to) - from)
     }
 
-    // The first price up to the first end, and each segment's price on its part below the output.
+    // The first price up to the first end, and each segment's price on its part below the output. A segment goes by its number, which names
+    // its two ends and its price: pairs of ends joined to prices would be no plainer.
     fn cost_below(&self, output: Tenths) -> Grains
         ensures { result.0 ≡ running_cost self.now.numbers output.0 }
     {
@@ -67,10 +68,10 @@ impl Curve {
     {
         let slope = self.net_price(segment) - value;
         let taken = slope * (self.below(segment, high) - self.below(segment, low));
-        if taken.0 < 0 { taken } else { Grains(0) }
+        taken.min(Grains(0))
     }
 
-    // The value at the low end, and what each segment takes off from there.
+    // The value at the low end, and what each segment takes off from there, segments by number as above.
     fn lowered(&self, value: NetPrice, low: Tenths, high: Tenths) -> Grains
         requires { asked_test self.now.numbers value.0 low.0 high.0 ≡ true }
         ensures told { result ≡ grains (least_over low.0 high.0 (net_cost self.now.numbers value.0)) }
@@ -83,7 +84,7 @@ impl Curve {
         least
     }
 
-    // Whether the least can be asked for.
+    // Whether the least can be asked for. By the measures' own order the proof doesn't close.
     fn asked(&self, value: NetPrice, low: Tenths, high: Tenths) -> bool
         ensures { result ≡ asked_test self.now.numbers value.0 low.0 high.0 }
     {

@@ -1,17 +1,22 @@
-use Rattle.std.proofs.Common.{Some, None}
-use Rattle.kinds.specs.Renewables.{shape, curves}
+use Rattle.std.proofs.Common.{Ok, Err}
+use Rattle.std.proofs.lemmas.Result.{err_from_is_err_and}
+use Rattle.kinds.specs.Renewables.{no_station, shape, curves}
 use Rattle.kinds.proofs.RenewableTables.{told}
-use Rattle.kinds.proofs.Shapes.{shape_told}
+use Rattle.kinds.proofs.Shapes.{shape_so}
 use Rattle.fleets.proofs.renewables.making.first_no.Goals as goal
 
-pub returns-in-Some : goal.returns-in-Some
-returns-in-Some c = shape _ (shape_told _ _ _ (Some c.in-Some.refusal) c.in-Some.ensures)
+pub returns-in_err-shape_fits : goal.returns-in_err-shape_fits
+returns-in_err-shape_fits c =
+    let p = err_from_is_err_and c.from_residual.result c.from_residual.ensures.1 in
+    rw (p.1, p.2) (shape _ (shape_so _ _ _ (Err _) c.in_err-shape_fits.ensures))
 
-pub returns-in-Some-no_curve : goal.returns-in-Some-no_curve
-returns-in-Some-no_curve c = curves _ (shape_told _ _ _ None c.in_default.ensures) c.in-Some-no_curve.ensures
+pub returns-in_err-curves_fit : goal.returns-in_err-curves_fit
+returns-in_err-curves_fit c =
+    let p = err_from_is_err_and c.from_residual-in_err-curves_fit.result c.from_residual-in_err-curves_fit.ensures.1 in
+    rw (p.1, p.2) (curves _ (shape_so _ _ _ (Ok tt) c.in_ok-shape_fits.ensures) (c.in_err-curves_fit.ensures no_station))
 
 pub no_row-requires : goal.no_row-requires
-no_row-requires c = shape_told _ _ _ None c.in_default.ensures
+no_row-requires c = shape_so _ _ _ (Ok tt) c.in_ok-shape_fits.ensures
 
 pub returns : goal.returns
-returns c = told _ (shape_told _ _ _ None c.in_default.ensures) c.in_default-no_curve.ensures _ c.no_row.ensures
+returns c = told _ (shape_so _ _ _ (Ok tt) c.in_ok-shape_fits.ensures) (c.in_ok-curves_fit.ensures no_station) _ c.no_row.ensures

@@ -1,22 +1,14 @@
-use Rattle.std.proofs.Common.{◌≡◌, true, false, ℤ, pos, ◌-ℤ◌, ◌*ℤ◌, sym, ap, ◌∙◌, arith, w64, to_z, of_z}
-use lib.Signed.{lt_z}
+use Rattle.std.proofs.Common.{◌≡◌, pos, ◌-ℤ◌, ◌*ℤ◌, ap, ◌∙◌, arith}
 use Rattle.std.specs.Int.{int_min}
 use Rattle.std.proofs.lemmas.Int.{ints}
-use Rattle.std.proofs.lemmas.Bool.{cond-true, cond-false}
 use Rattle.market.specs.Scans.{Within}
 use Rattle.kinds.specs.Curves.{Made, price, below, fall}
 use Rattle.kinds.proofs.Falls.{fall_whole_within}
+use Rattle.kinds.proofs.Fitting.{smaller_is}
 use Rattle.kinds.proofs.CurveTests.{made_so}
 use Rattle.kinds.proofs.Segments.{below_small, net_within}
 use Rattle.kinds.proofs.curve.Curve.fall.Goals as goal
 use Rattle.kinds.proofs.curve.Curve.fall.Goals.{After-below-2, After-sub}
-
--- the smaller of 0 and a number, by the test that is made
-taken_off : (x y : ℤ) → Within 404000000000000 y → x ≡ y → lt_z (to_z w64 (of_z w64 x)) (pos 0) ≡ true → x ≡ int_min (pos 0) y
-taken_off x y w e t = let same : to_z w64 (of_z w64 x) ≡ x = omega (arith, ints) in sym (cond-true (lt_z x (pos 0)) x (pos 0) (ap (λ z. lt_z z (pos 0)) (sym same) ∙ t)) ∙ ap (int_min (pos 0)) e
-
-left_on : (x y : ℤ) → Within 404000000000000 y → x ≡ y → lt_z (to_z w64 (of_z w64 x)) (pos 0) ≡ false → pos 0 ≡ int_min (pos 0) y
-left_on x y w e t = let same : to_z w64 (of_z w64 x) ≡ x = omega (arith, ints) in sym (cond-false (lt_z x (pos 0)) x (pos 0) (ap (λ z. lt_z z (pos 0)) (sym same) ∙ t)) ∙ ap (int_min (pos 0)) e
 
 made : (c : After-below-2) → Made c.args.self.now.numbers
 made c = made_so c.args.self.now.numbers c.args.self.now.made
@@ -44,10 +36,6 @@ small c = fall_whole_within c.args.self.now.numbers (made (goal.at.mul-taken-req
 pub mul-taken-requires : goal.mul-taken-requires
 mul-taken-requires c = let e = product_is c in let w = small c in omega (arith, ints)
 
-pub returns-then-taken-lt0 : goal.returns-then-taken-lt0
+pub returns : goal.returns
 unfolding fall
-returns-then-taken-lt0 c = let i = (goal.at.returns-then-taken-lt0 c).After-sub in taken_off _ _ (small i) (c.mul-taken.ensures ∙ product_is i) c.if-taken-lt0.true
-
-pub returns-else-taken-lt0 : goal.returns-else-taken-lt0
-unfolding fall
-returns-else-taken-lt0 c = let i = (goal.at.returns-else-taken-lt0 c).After-sub in left_on _ _ (small i) (c.mul-taken.ensures ∙ product_is i) c.if-taken-lt0.false
+returns c = smaller_is _ c.mul-taken.result _ c.min.ensures ∙ ap (int_min (pos 0)) (c.mul-taken.ensures ∙ product_is (goal.at.returns c).After-sub)

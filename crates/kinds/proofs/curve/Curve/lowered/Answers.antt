@@ -3,7 +3,7 @@ use Rattle.std.proofs.lemmas.Int.{ints}
 use Rattle.market.specs.Scans.{Within}
 use Rattle.kinds.specs.Curves.{Made, net_cost, highest}
 use Rattle.kinds.specs.Leasts.{Least}
-use Rattle.kinds.proofs.Falls.{worth_within, net_cost_within, fall_within, lowered, lowered_within, lowered_start, lowered_more, lowered_end, lowered_least, lowered_is}
+use Rattle.kinds.proofs.Falls.{worth_within, net_cost_within, fall_within, lowered, lowered_within, lowered_more, lowered_end, lowered_least, lowered_is}
 use Rattle.kinds.proofs.CurveTests.{Asked, made_so, asked_so}
 use Rattle.kinds.proofs.curve.Curve.lowered.Goals as goal
 use Rattle.kinds.proofs.curve.Curve.lowered.Goals.{After-running_cost, After-mul, After-loop-segment}
@@ -32,9 +32,6 @@ sub-least-requires c =
     let e = start_is c in
     let w = net_cost_within c.args.self.now.numbers (made i) c.args.value.0 (asked i).value c.args.low.0 (asked i).on (low_under i) in
     omega (arith, ints)
-
-pub loop-segment-init : goal.loop-segment-init
-loop-segment-init c = lowered_start c.args.self.now.numbers c.args.value.0 c.args.low.0 c.args.high.0 _ (c.sub-least.ensures ∙ start_is (goal.at.loop-segment-init c).After-mul)
 
 pub add-least-requires : goal.add-least-requires
 add-least-requires c =
