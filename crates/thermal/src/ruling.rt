@@ -73,7 +73,7 @@ impl State {
     }
 }
 
-// What the unit brings into the day.
+// What the unit brings into the day; a record tells its mark as a number.
 impl From<&Unit<'_>> for State {
     ghost from_gives = { λ unit state. (code_of state.mark ≡ unit.now.record.now.mark) × ((state.lasted ≡ unit.now.record.now.lasted) × (state.output.0 ≡ unit.now.record.now.output)) };
 

@@ -11,7 +11,7 @@ use std::str::{FromStr, Split};
 use std::{array, fmt, io};
 use thermal::Thermal;
 
-// The longest curve.
+// The longest curve, whose numbers a record holds in arrays.
 const SEGMENTS: usize = 10;
 
 // Why a line gives no row.

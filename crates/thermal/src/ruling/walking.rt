@@ -1,11 +1,10 @@
 // A step of the walk back: what the periods from one on weigh, from what those after it weigh.
 mod pricing;
 
-ghost use Rattle.std.specs.Prelude.{◌≡◌, pos, ◌+ℤ◌};
+ghost use Rattle.std.specs.Prelude.{◌≡◌, ◌+ℤ◌};
 ghost use Rattle.std.specs.Int.{int_min};
 ghost use Rattle.market.specs.Scans.{Within};
 ghost use Rattle.kinds.specs.Walks.{AheadWithin, running_to};
-ghost use Rattle.thermal.specs.Ahead.{amounts};
 
 use measures::Grains;
 
@@ -15,20 +14,22 @@ struct PeriodWeights {
     pub run: Grains,
     pub start: Grains,
     pub stop: Grains,
-    ghost within: { (Within 452400000000000 run.0) × ((Within 452400000000000 start.0) × (Within 452400000000000 stop.0)) },
+    ghost small: { (Within 452400000000000 run.0) × ((Within 452400000000000 start.0) × (Within 452400000000000 stop.0)) },
 }
 
 // What the periods from one on weigh: `run` for a unit that runs in all of them and in the one before, and the least for one that runs and may
 // stop (`on`) and for one that is stopped and may start (`off`).
-// That they lie within what a day can come to is a fact of a whole walk, which a step by itself may leave: so each call asks it.
 #[derive(Clone, Copy)]
 struct Ahead {
     pub run: Grains,
     pub on: Grains,
     pub off: Grains,
+    ghost small: { AheadWithin (record { run = run.0; on = on.0; off = off.0 }) },
 }
 
 impl Ahead {
+    ghost use Rattle.thermal.specs.Ahead.{amounts, step};
+
     // After the last period.
     const NOTHING: Ahead = Ahead {
         run: Grains(0),
@@ -38,7 +39,6 @@ impl Ahead {
 
     // What it weighs to run up to another period, and to be free to stop from there.
     fn running_to(self, to: Ahead) -> Grains
-        requires { (AheadWithin (amounts self)) × (AheadWithin (amounts to)) }
         ensures told { result.0 ≡ running_to (amounts self) (amounts to) }
         ensures small { Within 130291200000000000 result.0 }
     {
@@ -47,7 +47,6 @@ impl Ahead {
 
     // A period earlier, a unit that runs and may stop runs on, or stops.
     fn on_before(self, weights: PeriodWeights, may_start: Ahead) -> Grains
-        requires { (AheadWithin (amounts self)) × (AheadWithin (amounts may_start)) }
         ensures { result.0 ≡ int_min (weights.run.0 +ℤ self.on.0) (weights.stop.0 +ℤ may_start.off.0) }
     {
         (weights.run + self.on).min(weights.stop + may_start.off)
@@ -55,7 +54,6 @@ impl Ahead {
 
     // A unit that is stopped and may start stays stopped, or starts and runs for its least running time.
     fn off_before(self, weights: PeriodWeights, may_stop: Ahead) -> Grains
-        requires { (AheadWithin (amounts self)) × (AheadWithin (amounts may_stop)) }
         ensures { result.0 ≡ int_min self.off.0 (weights.start.0 +ℤ running_to (amounts self) (amounts may_stop)) }
     {
         self.off.min(weights.start + self.running_to(may_stop))
@@ -63,10 +61,8 @@ impl Ahead {
 
     // A period earlier: a unit that starts in it may stop at `may_stop`, and one that stops in it may start at `may_start`.
     fn before(self, weights: PeriodWeights, may_stop: Ahead, may_start: Ahead) -> Ahead
-        requires { (AheadWithin (amounts self)) × ((AheadWithin (amounts may_stop)) × (AheadWithin (amounts may_start))) }
-        ensures run { result.run.0 ≡ weights.run.0 +ℤ self.run.0 }
-        ensures on { result.on.0 ≡ int_min (weights.run.0 +ℤ self.on.0) (weights.stop.0 +ℤ may_start.off.0) }
-        ensures off { result.off.0 ≡ int_min self.off.0 (weights.start.0 +ℤ running_to (amounts self) (amounts may_stop)) }
+        requires { AheadWithin (step weights self may_stop may_start) }
+        ensures { amounts result ≡ step weights self may_stop may_start }
     {
         Ahead {
             run: weights.run + self.run,

@@ -1,7 +1,7 @@
 // A thermal unit's floor: the least weight of all mark sequences that keep the time rules, by a walk back over the periods.
 mod answering;
 
-ghost use Rattle.std.specs.Prelude.{◌≡◌, ℕ, ◌+◌, ◌^◌, ◌<◌, ◌≤◌, min, length, replicate, pos, ◌-ℤ◌, ◌+ℤ◌, ◌*ℤ◌};
+ghost use Rattle.std.specs.Prelude.{◌≡◌, ℕ, ◌+◌, ◌^◌, ◌<◌, ◌≤◌, map, min, length, replicate, pos, ◌-ℤ◌, ◌+ℤ◌, ◌*ℤ◌};
 ghost use Rattle.market.specs.Fleet.{row_prices_of};
 ghost use Rattle.market.specs.Scans.{Within, UpTo, at};
 ghost use Rattle.kinds.specs.Curves.{lowest, highest, net_cost};
@@ -9,7 +9,7 @@ ghost use Rattle.kinds.specs.Leasts.{least_over};
 ghost use Rattle.kinds.specs.Thermal.{UnitMade, rise_allowance, fall_allowance, value, running_weight, weight_in, floor};
 ghost use Rattle.kinds.specs.Walks.{PricesFit, Walked, AheadWithin, from_before};
 ghost use Rattle.thermal.specs.Marks.{code_of};
-ghost use Rattle.thermal.specs.Ahead.{nothing, ahead_of};
+ghost use Rattle.thermal.specs.Ahead.{amounts, nothing, ahead_of};
 
 use crate::mark::Mark;
 use crate::ruling::walking::{Ahead, PeriodWeights};
@@ -18,12 +18,13 @@ use kinds::MOST_PERIODS;
 use market::RowPrices;
 use measures::{Fen, Grains, NetPrice, Yuan};
 
-// A cell for each period of the longest day, and one after the last: an array, since a floor may not run out of memory.
+// A cell for each period of the longest day, and one after the last: an array, since a floor takes no memory from the heap.
 const CELLS: usize = MOST_PERIODS + 1;
 
 // Before the first step of the walk back.
 fn ended() -> [Ahead; CELLS]
-    ensures { result ≡ replicate 97 nothing }
+    ensures long { length result ≡ 97 }
+    ensures nothing { map amounts result ≡ replicate 97 nothing }
 {
     [Ahead::NOTHING; CELLS]
 }
@@ -154,7 +155,7 @@ impl Priced<'_> {
         self.prices.net.len()
     }
 
-    // The walk back, from after the last period to the first. It reads two later periods by number, so it goes by number itself.
+    // The walk back, from after the last period to the first. It goes by index, since a step reads cells further on.
     fn walk_back(&self) -> [Ahead; CELLS]
         ensures { Walked self.now.unit.record.now (row_prices_of self.now.prices) (length self.now.prices.net.now) 0 (ahead_of result) }
     {
@@ -171,7 +172,6 @@ impl Priced<'_> {
 
     // The least weight of the day, from the state before it: a mark goes on for what it still owes of its least time.
     fn lightest(&self, walk: &[Ahead; CELLS]) -> Grains
-        requires { (k : ℕ) → k ≤ length self.now.prices.net.now → AheadWithin (ahead_of walk.now k) }
         ensures told { result.0 ≡ from_before self.now.unit.record.now (length self.now.prices.net.now) (ahead_of walk.now) }
         ensures small { Within 130291200000000000 result.0 }
     {
@@ -202,7 +202,6 @@ impl Priced<'_> {
 
     // Both together.
     fn weight_of_day(&self, walk: &[Ahead; CELLS]) -> Grains
-        requires { (k : ℕ) → k ≤ length self.now.prices.net.now → AheadWithin (ahead_of walk.now k) }
         ensures { result.0 ≡ from_before self.now.unit.record.now (length self.now.prices.net.now) (ahead_of walk.now) +ℤ pos 1000 *ℤ (at self.now.prices.fall.now 0 -ℤ at self.now.prices.rise.now 0) *ℤ self.now.unit.record.now.output }
     {
         self.lightest(walk) + self.carried()

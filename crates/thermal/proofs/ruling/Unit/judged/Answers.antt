@@ -1,11 +1,10 @@
-use Rattle.std.proofs.Common.{◌≡◌, ℕ, suc, ◌+◌, ◌*◌, ◌<◌, ◌≤◌, cond, eqb, List, ◌∷◌, length, drop, get_or, pos, ◌+ℤ◌, None, Ok, Err, Result, MatchResult, inl, inr, sym, ap, ◌∙◌, subst, add-one, arith, w32, SFits, to_z, of_z, rules, length-drop}
+use Rattle.std.proofs.Common.{◌≡◌, ℕ, suc, ◌+◌, ◌*◌, ◌<◌, ◌≤◌, cond, eqb, List, ◌∷◌, length, drop, get_or, pos, ◌+ℤ◌, None, inl, inr, sym, ap, ◌∙◌, subst, add-one, arith, w32, SFits, to_z, of_z, rules, length-drop}
 use Rattle.std.proofs.Math.Seq.{drop-cons}
 use Rattle.std.proofs.lemmas.Bool.{cases_lt}
 use Rattle.std.proofs.lemmas.Int.{ints, to_z-of_z}
-use Rattle.std.proofs.lemmas.Result.{err_from_is_err_and}
+use Rattle.std.proofs.lemmas.Result.{err_from_is_err_and, MatchResult-at_ok}
 use Rattle.std.specs.Iterator.Adapters.{enumerate_count, enumerate_source, zip_first, zip_second}
 use Rattle.std.specs.Slice.Iter.{iter_rest}
-use Rattle.std.specs.Result.{IsErrAnd}
 use Rattle.measures.specs.Amounts.{grains}
 use Rattle.market.specs.declared.broken.Broken.{Broken}
 use Rattle.market.specs.Fleet.{Schedule, schedule_of, broken}
@@ -16,7 +15,7 @@ use Rattle.kinds.specs.Rules.{number_of}
 use Rattle.kinds.specs.Thermal.{mark_in, mark_before, lasted_before, output_before, running, first_broken, rule, period_cost, cost_in}
 use Rattle.kinds.specs.Verdicts.{LawfulAt}
 use Rattle.kinds.proofs.Lawful.{kept_all}
-use Rattle.kinds.proofs.Telling.{told_on}
+use Rattle.kinds.proofs.Telling.{told_ok, told_on}
 use Rattle.kinds.proofs.Units.{period_cost_within, output_lawful}
 use Rattle.kinds.proofs.Verdicts.{lawful_more, judged_lawful, judged_broken}
 use Rattle.kinds.proofs.Walking.{mark_next, lasting_next, output_next, lasting_within}
@@ -35,11 +34,6 @@ turn xs t d x rest e =
 -- and where nothing is left
 spent : {A : Type 0} (xs left : List A) (t : ℕ) → left ≡ drop t xs → length left ≡ 0 → t ≤ length xs → t ≡ length xs
 spent xs left t e none within = let f : length (drop t xs) ≡ 0 = ap length (sym e) ∙ none in omega (arith, length-drop t xs)
-
--- by `map_err` and then `?`: what the call gave
-kept_on : {A E D : Type 0} (P : A → Type 0) (Q : E → Type 0) (R : E → D → Type 0) (r : Result A E) (s : Result A D) (x : A) → MatchResult r P Q → MatchResult r (λ y. s ≡ Ok y) (λ e. IsErrAnd s (R e)) → s ≡ Ok x → P x
-kept_on P Q R (Ok y) s x h is e = let f : y ≡ x = cc in subst P f h
-kept_on P Q R (Err y) s x h is e = absurd (subst (λ z. IsErrAnd z (R y)) e is)
 
 module _ (c : After-asked) where
   -- the period, and the schedule
@@ -76,7 +70,7 @@ module _ (c : After-period_cost) where
 
   -- the period breaks no rule, and its mark is the one that is asked
   kept : (first_broken c.args.self.now.record.now (code_of c.loop-period.before.mark) c.loop-period.before.lasted c.loop-period.before.output.0 c.in-Some.mark.now (to_z w32 (of_z w32 c.in-Some.output.now)) ≡ None) × (code_of c.in_ok-mark.mark ≡ c.in-Some.mark.now)
-  kept = kept_on _ _ _ c.asked.result c.map_err.result c.in_ok-mark.mark c.asked.ensures c.map_err.ensures.cases c.in_ok-mark.was
+  kept = MatchResult-at_ok _ _ _ (told_ok _ c.asked.result c.map_err.result c.in_ok-mark.mark c.map_err.ensures.cases c.in_ok-mark.was) c.asked.ensures
 
   lawful : rule c.args.self.now.record.now (schedule asked) (now asked) ≡ None
   lawful = sym (rule_is asked) ∙ kept.0

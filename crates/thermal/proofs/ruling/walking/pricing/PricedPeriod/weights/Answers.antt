@@ -1,4 +1,4 @@
-use Rattle.std.proofs.Common.{sym, subst}
+use Rattle.std.proofs.Common.{ℤ, sym, subst}
 use Rattle.market.specs.Fleet.{row_prices_of}
 use Rattle.market.specs.Scans.{Within}
 use Rattle.kinds.proofs.Units.{weight_in_within}
@@ -7,5 +7,6 @@ use Rattle.thermal.proofs.ruling.walking.pricing.PricedPeriod.weights.Goals as g
 pub invariant_of-result : goal.invariant_of-result
 invariant_of-result c =
     let p = c.args.self.now.day in
-    let W = weight_in_within p.unit.record.now p.unit.made (row_prices_of p.prices) p.fit c.args.self.now.period in
-    record { within = (subst (Within 452400000000000) (sym c.weight.ensures) (W 1 1), (subst (Within 452400000000000) (sym c.weight-2.ensures) (W 0 1), subst (Within 452400000000000) (sym c.weight-3.ensures) (W 1 0))) }
+    let within = weight_in_within p.unit.record.now p.unit.made (row_prices_of p.prices) p.fit c.args.self.now.period in
+    let W : ℤ → Type 0 = λ z. Within 452400000000000 z in
+    record { small = (subst W (sym c.weight.ensures) (within 1 1), (subst W (sym c.weight-2.ensures) (within 0 1), subst W (sym c.weight-3.ensures) (within 1 0))) }
