@@ -56,17 +56,13 @@ fn drawn(day: &Day, period: usize) -> [i32; MOST_NODES]
     fed
 }
 
-// What all nodes feed in, net.
-fn sum(fed: &[i32]) -> Tenths
-    requires few { length fed.now ≤ 16 }
-    requires small { (k : ℕ) → k < length fed.now → Within 680000 (at fed.now k) }
-    ensures { result.0 ≡ total (length fed.now) (λ k. at fed.now k) }
-{
-    let mut all = Tenths(0);
-    for power in fed {
-        all = all + Tenths(*power);
-    }
-    all
+// What the day's nodes feed in, net, in a period.
+#[derive(Clone, Copy)]
+struct Injections<'a> {
+    day: &'a Day<'a>,
+    fed: &'a [i32],
+    ghost long: { length fed.now ≡ day.now.numbers.nodes },
+    ghost small: { (k : ℕ) → k < day.now.numbers.nodes → Within 680000 (at fed.now k) },
 }
 
 // A line's factors, node by node.
@@ -85,39 +81,51 @@ fn share(factor: i32, power: i32) -> Flow
     Factor(factor) * Tenths(power)
 }
 
-// The flow over a line of what the nodes feed in: whole factors, summed before anything is compared.
-fn flow(day: &Day, line: usize, fed: &[i32]) -> Flow
-    requires few { (line < day.now.numbers.lines) × (day.now.numbers.nodes ≡ length fed.now) }
-    requires small { (k : ℕ) → k < day.now.numbers.nodes → Within 680000 (at fed.now k) }
-    ensures { result.0 ≡ total day.now.numbers.nodes (λ k. factor (numbers_of day.now.numbers) line k *ℤ at fed.now k) }
-{
-    let mut all = Flow(0);
-    for (factor, power) in factors(day, line).iter().zip(fed) {
-        all = all + share(*factor, *power);
+impl Injections<'_> {
+    // Of all nodes.
+    fn sum(&self) -> Tenths
+        ensures { result.0 ≡ total self.now.day.now.numbers.nodes (λ k. at self.now.fed.now k) }
+    {
+        let mut all = Tenths(0);
+        for power in self.fed {
+            all = all + Tenths(*power);
+        }
+        all
     }
-    all
-}
 
-// The first line whose limit is broken by what the nodes feed in, the upper limit asked before the lower. The flow is that of a line by its number,
-// so the lines are walked by number too.
-fn lines_asked(day: &Day, fed: &[i32], period: usize) -> Result<(), Refusal>
-    requires few { (day.now.numbers.nodes ≡ length fed.now) × (period < 96) }
-    requires small { (k : ℕ) → k < day.now.numbers.nodes → Within 680000 (at fed.now k) }
-    ensures { LinesTold (numbers_of day.now.numbers) (flow_of (numbers_of day.now.numbers) fed.now) period result }
-{
-    let period = period + 1;
-    for line in 0..day.numbers.lines {
-        let carried = flow(day, line, fed);
-        let upper = Tenths(day.numbers.upper[line]).flow();
-        let lower = Tenths(day.numbers.lower[line]).flow();
-        if carried.exceeds(upper) {
-            return Err(Refusal::Upper { line, period });
+    // What flows over a line: whole factors, summed before anything is compared.
+    fn flow(&self, line: usize) -> Flow
+        requires { line < self.now.day.now.numbers.lines }
+        ensures { result.0 ≡ total self.now.day.now.numbers.nodes (λ k. factor (numbers_of self.now.day.now.numbers) line k *ℤ at self.now.fed.now k) }
+    {
+        let mut all = Flow(0);
+        for (factor, power) in factors(self.day, line).iter().zip(self.fed) {
+            all = all + share(*factor, *power);
         }
-        if lower.exceeds(carried) {
-            return Err(Refusal::Lower { line, period });
-        }
+        all
     }
-    Ok(())
+
+    // The first line whose limit is broken, the upper limit asked before the lower. The flow is that of a line by its number, so the lines are walked
+    // by number too.
+    fn lines_asked(&self, period: usize) -> Result<(), Refusal>
+        requires { period < 96 }
+        ensures { LinesTold (numbers_of self.now.day.now.numbers) (flow_of (numbers_of self.now.day.now.numbers) self.now.fed.now) period result }
+    {
+        let day = self.day.numbers;
+        let period = period + 1;
+        for line in 0..day.lines {
+            let carried = self.flow(line);
+            let upper = Tenths(day.upper[line]).flow();
+            let lower = Tenths(day.lower[line]).flow();
+            if carried.exceeds(upper) {
+                return Err(Refusal::Upper { line, period });
+            }
+            if lower.exceeds(carried) {
+                return Err(Refusal::Lower { line, period });
+            }
+        }
+        Ok(())
+    }
 }
 
 impl<F: Fleet> Offer<'_, F> {
@@ -176,11 +184,14 @@ impl<F: Fleet> Offer<'_, F> {
         ensures { PeriodTold (numbers_of self.now.day.now.numbers) (meaning F.Fleet self.now.fleet.now) (plan_of self.now.plan.now) period result }
     {
         let all = self.gathered(period);
-        let fed = &all[..self.day.numbers.nodes];
-        if sum(fed) != Tenths(0) {
+        let fed = Injections {
+            day: self.day,
+            fed: &all[..self.day.numbers.nodes],
+        };
+        if fed.sum() != Tenths(0) {
             return Err(Refusal::Balance { period: period + 1 });
         }
-        lines_asked(self.day, fed, period)
+        fed.lines_asked(period)
     }
 
     // What a lawful plan costs, or the first rule that is broken: the rows', and then the market's period by period.

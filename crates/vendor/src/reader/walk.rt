@@ -22,6 +22,8 @@ fn find(bytes: &[u8], byte: u8) -> usize
     bytes.iter().position(|b| *b == byte).unwrap_or(bytes.len())
 }
 
+// Inside a row the place where it ends goes along: a struct of the two would hold the reader by `&mut` and lend its fields out of that, which is no
+// plainer.
 impl<'a> Reader<'a> {
     // The next field of the row that ends at `end`, or `None` past its last.
     #[tactic(auto, using(crate::proofs::Cuts::none_left, crate::proofs::Cuts::next_left))]

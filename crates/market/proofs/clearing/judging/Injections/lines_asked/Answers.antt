@@ -5,17 +5,17 @@ use Rattle.market.specs.Scans.{at}
 use Rattle.market.proofs.Ints.{reread}
 use Rattle.market.proofs.Making.{made_so}
 use Rattle.market.proofs.Scanning.{less_told, at_most_told}
-use Rattle.market.proofs.clearing.judging.lines_asked.Goals as goal
-use Rattle.market.proofs.clearing.judging.lines_asked.Goals.{After-flow-lower}
+use Rattle.market.proofs.clearing.judging.Injections.lines_asked.Goals as goal
+use Rattle.market.proofs.clearing.judging.Injections.lines_asked.Goals.{After-flow-lower}
 
-made : (c : After-flow-lower) → Made (numbers_of c.args.day.now.numbers)
-made c = made_so (numbers_of c.args.day.now.numbers) c.args.day.now.made
+made : (c : After-flow-lower) → Made (numbers_of c.args.self.now.day.now.numbers)
+made c = made_so (numbers_of c.args.self.now.day.now.numbers) c.args.self.now.day.now.made
 
 -- the limits in thousandths
-uppermost : (c : After-flow-lower) → c.flow-upper.result.0 ≡ pos 1000 *ℤ at c.args.day.now.numbers.upper.now c.loop-line.line
+uppermost : (c : After-flow-lower) → c.flow-upper.result.0 ≡ pos 1000 *ℤ at c.args.self.now.day.now.numbers.upper.now c.loop-line.line
 uppermost c = c.flow-upper.ensures ∙ ap (λ z. pos 1000 *ℤ z) (reread 200000 _ (lit≤ tt) ((made c).upper _ (omega (arith, c.loop-line-test.true, (made c).lengths.upper))))
 
-lowest : (c : After-flow-lower) → c.flow-lower.result.0 ≡ pos 1000 *ℤ at c.args.day.now.numbers.lower.now c.loop-line.line
+lowest : (c : After-flow-lower) → c.flow-lower.result.0 ≡ pos 1000 *ℤ at c.args.self.now.day.now.numbers.lower.now c.loop-line.line
 lowest c = c.flow-lower.ensures ∙ ap (λ z. pos 1000 *ℤ z) (reread 200000 _ (lit≤ tt) ((made c).lower _ (omega (arith, c.loop-line-test.true, (made c).lengths.lower))))
 
 pub returns-then-exceeds : goal.returns-then-exceeds
