@@ -5,6 +5,7 @@ ghost use Rattle.market.specs.Fleet.{asked, unless, row_fault, schedule_of, row_
 ghost use Rattle.market.specs.Scans.{first_out};
 
 use crate::broken::Broken;
+use crate::price_set::MOST_PRICE;
 use crate::row_prices::RowPrices;
 use crate::scan::first_outside;
 use crate::schedule::Schedule;
@@ -15,10 +16,8 @@ const LENGTHS: Broken = Broken { rule: 8, period: 0 };
 // The number of the question on prices.
 const LIMITS: u8 = 19;
 
-// The limits of a net price, in grains per tenth and period, and of the price of a rise or a fall, in fen.
+// The limit of a net price to either side of zero, in grains per tenth and period.
 const MOST_NET: i64 = 17_000_000_000;
-
-const MOST_PRICE: i32 = 1_000_000;
 
 // 8 unless the row is below the size.
 pub fn row_asked(row: usize, size: usize) -> Result<(), Broken>

@@ -13,6 +13,7 @@ ghost use Rattle.market.specs.Totals.{total};
 use crate::day::Day;
 use crate::fleet::Fleet;
 use crate::lengths::plan_lengths;
+use crate::numbers::MOST_NODES;
 use crate::placing::place;
 use crate::plan::Plan;
 use crate::refusal::Refusal;
@@ -38,10 +39,7 @@ impl<F: Fleet> Drop for Offer<'_, F> {
     }
 }
 
-// What the nodes feed in lies in an array, since judging may not run out of memory.
-const MOST_NODES: usize = 16;
-
-// What each node draws in a period, below zero. The loads of one period lie a row of the table apart, so they are walked by number; `array::from_fn`
+// What each node draws in a period, below zero, in an array, since judging may not run out of memory. The loads of one period lie a row of the table apart, so they are walked by number; `array::from_fn`
 // was tried, and that its closure may be called at every node was not proved.
 fn drawn(day: &Day, period: usize) -> [i32; MOST_NODES]
     requires { period < day.now.numbers.periods }

@@ -8,6 +8,7 @@ ghost use Rattle.market.specs.Clearing.{net_price};
 ghost use Rattle.market.specs.Days.{numbers_of};
 
 use crate::day::Day;
+use crate::numbers::{MOST_NODES, MOST_PERIODS};
 use crate::price_set::PriceSet;
 pub use bounding::bound;
 use measures::{Factor, Fen, Grains, NetPrice, Tenths};
@@ -28,8 +29,8 @@ struct LinePrices<'a> {
     ghost priced: { LinesPriced (numbers_of day.now.numbers) (prices_of prices.now) },
 }
 
-// A cell for each of 16 nodes and 96 periods: an array, since bounding may not run out of memory.
-const MOST_CELLS: usize = 1_536;
+// A cell for each node and period: an array, since bounding may not run out of memory.
+const MOST_CELLS: usize = MOST_NODES * MOST_PERIODS;
 
 // The net prices that they make, node by node and then by period.
 #[derive(Drop)]

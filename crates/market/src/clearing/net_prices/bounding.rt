@@ -11,13 +11,11 @@ use crate::day::Day;
 use crate::fleet::Fleet;
 use crate::lengths::price_lengths;
 use crate::placing::place;
-use crate::price_set::PriceSet;
+use crate::price_set::{MOST_PRICE, PriceSet};
 use crate::refusal::Refusal;
 use crate::row_prices::RowPrices;
 use crate::scan::outside;
 use measures::Grains;
-
-const MOST_PRICE: i32 = 1_000_000;
 
 // A price set that has its lengths and is in range, for a fleet that fits the day.
 struct Offer<'a, F: Fleet> {
