@@ -1,10 +1,12 @@
 -- Tests on ranges, and what they tell. Assumes nothing.
-use Rattle.std.proofs.Common.{◌≡◌, ℕ, Bool, true, false, T, List, length, ℤ, ◌≤ℤ◌, Decides, sym, refl, ◌∙◌, subst, arith}
+use Rattle.std.proofs.Common.{◌≡◌, ℕ, Bool, true, false, not, cond, ◌&&◌, ◌||◌, Less, Equal, Greater, Option, T, List, length, ℤ, ◌≤ℤ◌, Decides, sym, refl, ◌∙◌, subst, arith}
+use Rattle.std.specs.List.{position}
+use Rattle.std.specs.Ordering.{int_cmp, is_lt, is_gt}
 use lib.Signed.{le_z, lt_z, le_z_yes}
 use Rattle.std.proofs.lemmas.Int.{ints}
 use Rattle.std.proofs.lemmas.Bool.{and_parts, and_from}
 use Rattle.std.proofs.lemmas.Bool.Decides.{Decides-below_and}
-use Rattle.market.specs.Scans.{In, in_test, at, InBefore, all_below, in_all, Ordered}
+use Rattle.market.specs.Scans.{In, in_test, at, InBefore, all_below, in_all, Ordered, first_out}
 
 -- the test of an order of integers
 told : (b : Bool) → T b → b ≡ true
@@ -43,3 +45,35 @@ decides_all low high xs =
 pub decides_ordered : (xs ys : List ℤ) (n : ℕ) → Decides (all_below (λ k. le_z (at xs k) (at ys k)) n) (Ordered xs ys n)
 decides_ordered xs ys n =
     Decides-below_and (λ k. le_z (at xs k) (at ys k)) (λ k. at xs k ≤ℤ at ys k) (all_below (λ k. le_z (at xs k) (at ys k))) (λ k. decides_le (at xs k) (at ys k)) refl (λ n. refl) n
+
+-- which of two numbers is the smaller, by the order of their type and by a test
+before : (x y : ℤ) (a b c : Bool) → lt_z x y ≡ a → lt_z y x ≡ b → le_z y x ≡ c → is_lt (cond a Less (cond b Greater Equal)) ≡ not c
+before x y true b true e f g = absurd (grind (arith, ints))
+before x y true b false e f g = refl
+before x y false true true e f g = refl
+before x y false false true e f g = refl
+before x y false b false e f g = absurd (grind (arith, ints))
+
+after : (x y : ℤ) (a b c : Bool) → lt_z x y ≡ a → lt_z y x ≡ b → le_z x y ≡ c → is_gt (cond a Less (cond b Greater Equal)) ≡ not c
+after x y true b true e f g = refl
+after x y true b false e f g = absurd (grind (arith, ints))
+after x y false true true e f g = absurd (grind (arith, ints))
+after x y false true false e f g = refl
+after x y false false true e f g = refl
+after x y false false false e f g = absurd (grind (arith, ints))
+
+either : (c d : Bool) → (not c || not d) ≡ not (c && d)
+either true d = refl
+either false d = refl
+
+apart : (low high x : ℤ) → (is_lt (int_cmp x low) || is_gt (int_cmp x high)) ≡ not (in_test low high x)
+apart low high x =
+    (λ j. before x low (lt_z x low) (lt_z low x) (le_z low x) refl refl refl j || after x high (lt_z x high) (lt_z high x) (le_z x high) refl refl refl j)
+    ∙ either (le_z low x) (le_z x high)
+
+-- a scan by the order of the cells' type finds the first cell that is out of its range
+abbrev pub scan : ℤ → ℤ → List ℤ → Option ℕ
+scan low high xs = position (λ x. is_lt (int_cmp x low) || is_gt (int_cmp x high)) xs
+
+pub scan_is : (low high : ℤ) (xs : List ℤ) → scan low high xs ≡ first_out low high xs
+scan_is low high xs = λ j. position (λ x. apart low high x j) xs

@@ -1,8 +1,9 @@
 // What every fleet asks before it answers: whether it has the row, whether every list has a cell for each period, and whether every price is
 // within its limits.
-ghost use Rattle.std.specs.Prelude.{◌≡◌, pos, neg_ℤ, nat_lt};
-ghost use Rattle.market.specs.Fleet.{asked, unless, row_fault, schedule_of, row_prices_of, schedule_listed, prices_listed, prices_asked};
-ghost use Rattle.market.specs.Scans.{first_out};
+ghost use Rattle.std.specs.Prelude.{◌≡◌, ◌||◌, None, nat_lt};
+ghost use Rattle.std.specs.List.{position};
+ghost use Rattle.std.specs.Ordering.{partial_lt, partial_gt};
+ghost use Rattle.market.specs.Fleet.{asked, unless, fault_at, row_fault, schedule_of, row_prices_of, schedule_listed, prices_listed, prices_asked};
 
 use crate::broken::Broken;
 use crate::price_set::MOST_PRICE;
@@ -55,28 +56,26 @@ fn listed(row: usize, size: usize, periods: usize, prices: &RowPrices) -> Result
     }
 }
 
-// The first net price outside its limits.
-fn first_net(net: &[i64]) -> Option<usize>
-    ensures { result ≡ first_out (neg_ℤ (pos 17000000000)) (pos 17000000000) net.now }
+// 19 with the first period of a price outside these limits.
+fn within<T: PartialOrd>(prices: &[T], low: &T, high: &T) -> Result<(), Broken>
+    ensures { result ≡ unless (fault_at (position (λ x. partial_lt T.partial_cmp x low.now || partial_gt T.partial_cmp x high.now) prices.now) None) tt }
 {
-    net.iter()
-        .position(|price| *price < -MOST_NET || *price > MOST_NET)
-}
-
-// 19 with the first period of a price outside its limits: net prices, then prices of rises, then of falls.
-fn within_limits(prices: &RowPrices) -> Result<(), Broken>
-    ensures { result ≡ unless (row_fault (row_prices_of prices.now)) tt }
-{
-    let first = first_net(prices.net)
-        .or_else(|| first_outside(prices.rise, 0, MOST_PRICE))
-        .or_else(|| first_outside(prices.fall, 0, MOST_PRICE));
-    match first {
+    match first_outside(prices, low, high) {
         Some(period) => Err(Broken {
             rule: LIMITS,
             period: period + 1,
         }),
         None => Ok(()),
     }
+}
+
+// 19 with the first period of a price outside its limits: net prices, then prices of rises, then of falls.
+fn within_limits(prices: &RowPrices) -> Result<(), Broken>
+    ensures { result ≡ unless (row_fault (row_prices_of prices.now)) tt }
+{
+    within(prices.net, &-MOST_NET, &MOST_NET)?;
+    within(prices.rise, &0, &MOST_PRICE)?;
+    within(prices.fall, &0, &MOST_PRICE)
 }
 
 // 8 unless the row is below the size and has prices for each period; then 19 with the period of the first that is outside its limits.

@@ -17,14 +17,7 @@ impl fmt::Display for Label {
 
     fn fmt<W: fmt::Write>(&self, f: &mut fmt::Formatter<W>) -> fmt::Result {
         let Label { hour, minute } = *self;
-        write!(
-            f,
-            "{}{}:{}{}",
-            hour / 10,
-            hour % 10,
-            minute / 10,
-            minute % 10
-        )
+        write!(f, "{hour:02}:{minute:02}")
     }
 }
 
@@ -57,7 +50,7 @@ fn minute(period: usize) -> u8
     MINUTES[period - 1]
 }
 
-// The label of a period of a day, or `None` for any other number.
+// The label of a period of a day, or `None` for any other number: Option and no TryFrom, since there is one no, and it has no name.
 pub fn label_of(period: usize) -> Option<Label>
     ensures { result ≡ label period }
 {

@@ -1,10 +1,17 @@
 // A day's numbers by node, line and period; periods count from 1.
-ghost use Rattle.std.specs.Prelude.{◌≡◌};
+ghost use Rattle.std.specs.Prelude.{◌≡◌, length};
 ghost use Rattle.market.specs.Access.{load_told, factor_told, limit_told};
 ghost use Rattle.market.specs.Days.{numbers_of};
 
 use crate::day::Day;
 use measures::{Factor, Tenths};
+
+// A line's limit, of a table with a cell for each line.
+fn limit(table: &[i32], line: usize) -> Option<Tenths>
+    ensures { result ≡ limit_told table.now (length table.now) line }
+{
+    table.get(line).copied().map(Tenths::from)
+}
 
 impl Day<'_> {
     pub fn load(&self, node: usize, period: usize) -> Option<Tenths>
@@ -33,22 +40,12 @@ impl Day<'_> {
     pub fn lower(&self, line: usize) -> Option<Tenths>
         ensures { result ≡ limit_told (numbers_of self.now.numbers).lower self.now.numbers.lines line }
     {
-        let day = self.numbers;
-        if line < day.lines {
-            Some(Tenths(day.lower[line]))
-        } else {
-            None
-        }
+        limit(self.numbers.lower, line)
     }
 
     pub fn upper(&self, line: usize) -> Option<Tenths>
         ensures { result ≡ limit_told (numbers_of self.now.numbers).upper self.now.numbers.lines line }
     {
-        let day = self.numbers;
-        if line < day.lines {
-            Some(Tenths(day.upper[line]))
-        } else {
-            None
-        }
+        limit(self.numbers.upper, line)
     }
 }
