@@ -46,21 +46,29 @@ pub decides_ordered : (xs ys : List ℤ) (n : ℕ) → Decides (all_below (λ k.
 decides_ordered xs ys n =
     Decides-below_and (λ k. le_z (at xs k) (at ys k)) (λ k. at xs k ≤ℤ at ys k) (all_below (λ k. le_z (at xs k) (at ys k))) (λ k. decides_le (at xs k) (at ys k)) refl (λ n. refl) n
 
--- which of two numbers is the smaller, by the order of their type and by a test
-before : (x y : ℤ) (a b c : Bool) → lt_z x y ≡ a → lt_z y x ≡ b → le_z y x ≡ c → is_lt (cond a Less (cond b Greater Equal)) ≡ not c
-before x y true b true e f g = absurd (grind (arith, ints))
-before x y true b false e f g = refl
-before x y false true true e f g = refl
-before x y false false true e f g = refl
-before x y false b false e f g = absurd (grind (arith, ints))
+-- which of two numbers is the smaller, by the order of their type and by tests
+smaller : (a b : Bool) → is_lt (cond a Less (cond b Greater Equal)) ≡ a
+smaller true b = refl
+smaller false true = refl
+smaller false false = refl
 
-after : (x y : ℤ) (a b c : Bool) → lt_z x y ≡ a → lt_z y x ≡ b → le_z x y ≡ c → is_gt (cond a Less (cond b Greater Equal)) ≡ not c
-after x y true b true e f g = refl
-after x y true b false e f g = absurd (grind (arith, ints))
-after x y false true true e f g = absurd (grind (arith, ints))
-after x y false true false e f g = refl
-after x y false false true e f g = refl
-after x y false false false e f g = absurd (grind (arith, ints))
+larger : (x y : ℤ) (a b : Bool) → lt_z x y ≡ a → lt_z y x ≡ b → is_gt (cond a Less (cond b Greater Equal)) ≡ b
+larger x y true true e f = absurd (grind (arith, ints))
+larger x y true false e f = refl
+larger x y false true e f = refl
+larger x y false false e f = refl
+
+strict : (x y : ℤ) (a b : Bool) → lt_z x y ≡ a → le_z y x ≡ b → a ≡ not b
+strict x y true true e f = absurd (grind (arith, ints))
+strict x y true false e f = refl
+strict x y false true e f = refl
+strict x y false false e f = absurd (grind (arith, ints))
+
+pub lt_is : (x y : ℤ) → is_lt (int_cmp x y) ≡ lt_z x y
+lt_is x y = smaller (lt_z x y) (lt_z y x)
+
+pub gt_is : (x y : ℤ) → is_gt (int_cmp x y) ≡ lt_z y x
+gt_is x y = larger x y (lt_z x y) (lt_z y x) refl refl
 
 either : (c d : Bool) → (not c || not d) ≡ not (c && d)
 either true d = refl
@@ -68,7 +76,7 @@ either false d = refl
 
 apart : (low high x : ℤ) → (is_lt (int_cmp x low) || is_gt (int_cmp x high)) ≡ not (in_test low high x)
 apart low high x =
-    (λ j. before x low (lt_z x low) (lt_z low x) (le_z low x) refl refl refl j || after x high (lt_z x high) (lt_z high x) (le_z x high) refl refl refl j)
+    (λ j. (lt_is x low ∙ strict x low (lt_z x low) (le_z low x) refl refl) j || (gt_is x high ∙ strict high x (lt_z high x) (le_z x high) refl refl) j)
     ∙ either (le_z low x) (le_z x high)
 
 -- a scan by the order of the cells' type finds the first cell that is out of its range

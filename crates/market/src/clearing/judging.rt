@@ -115,10 +115,10 @@ impl Injections<'_> {
             let carried = self.flow(line);
             let upper = Tenths(day.upper[line]).flow();
             let lower = Tenths(day.lower[line]).flow();
-            if carried.exceeds(upper) {
+            if carried > upper {
                 return Err(Refusal::Upper { line, period });
             }
-            if lower.exceeds(carried) {
+            if carried < lower {
                 return Err(Refusal::Lower { line, period });
             }
         }
