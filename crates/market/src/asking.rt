@@ -1,5 +1,6 @@
 // What every fleet asks before it answers: whether it has the row, whether every list has a cell for each period, and whether every price is
-// within its limits.
+// within its limits. Row, size and periods are three numbers and no struct: each call is the first line of a fleet's answer, and a struct would be
+// built there only to be taken apart.
 ghost use Rattle.std.specs.Prelude.{◌≡◌, ◌||◌, None, nat_lt};
 ghost use Rattle.std.specs.List.{position};
 ghost use Rattle.std.specs.Ordering.{partial_lt, partial_gt};

@@ -1,4 +1,5 @@
 // A plan judged: row by row, and then period by period.
+// A period stays a number below the day's: a struct for it would hold the day beside one number.
 ghost use Rattle.std.specs.Prelude.{◌≡◌, ℕ, ◌<◌, ◌≤◌, length, ◌*ℤ◌};
 ghost use Rattle.std.specs.Prelude.{Err, MatchResult};
 ghost use Rattle.market.specs.Clearing.{RowsKept, factor, part, row as row_of};
@@ -20,7 +21,8 @@ use crate::refusal::Refusal;
 use crate::schedule::Schedule;
 use measures::{Factor, Flow, Grains, Tenths};
 
-// A plan that has its lengths, for a fleet that fits the day.
+// A plan that has its lengths, for a fleet that fits the day. The same struct for bounding a price set stands beside it:
+// one over both would hold its fact by a parameter, and is no plainer.
 struct Offer<'a, F: Fleet> {
     day: &'a Day<'a>,
     fleet: &'a F,

@@ -1,5 +1,6 @@
 // Net prices: what a tenth of a megawatt fed in at a node is worth in a period. Periods count from 0 here.
-// The cells of one period lie a row of their table apart, so these walks go by number: chunks would only be taken to read one cell of each.
+// A period stays a number below the day's: a struct for it would hold the day beside one number.
+// The walks go by number: tables with different steps would be zipped, which is no plainer.
 mod bounding;
 
 ghost use Rattle.std.specs.Prelude.{◌≡◌, ◌<◌, length, slice_index_or};

@@ -3,13 +3,13 @@ use Rattle.market.specs.Days.{Made, numbers_of}
 use Rattle.market.specs.Injections.{over, under}
 use Rattle.market.specs.Scans.{at}
 use Rattle.market.proofs.Ints.{reread}
-use Rattle.market.proofs.Making.{made_so}
+use Rattle.market.proofs.Making.{made_of}
 use Rattle.market.proofs.Scanning.{less_told, at_most_told, lt_is, gt_is}
 use Rattle.market.proofs.clearing.judging.Injections.lines_asked.Goals as goal
 use Rattle.market.proofs.clearing.judging.Injections.lines_asked.Goals.{After-flow-lower}
 
 made : (c : After-flow-lower) → Made (numbers_of c.args.self.now.day.now.numbers)
-made c = made_so (numbers_of c.args.self.now.day.now.numbers) c.args.self.now.day.now.made
+made c = made_of c.args.self.now.day.now
 
 -- the limits in thousandths
 uppermost : (c : After-flow-lower) → c.flow-upper.result.0 ≡ pos 1000 *ℤ at c.args.self.now.day.now.numbers.upper.now c.loop-line.line

@@ -6,7 +6,7 @@ use Rattle.market.specs.Days.{Made, Numbers, numbers_of}
 use Rattle.market.specs.Scans.{at, Within}
 use Rattle.market.specs.Totals.{total}
 use Rattle.market.proofs.FloorParts.{apart, upper_worth, lower_worth, come_small, comes_more}
-use Rattle.market.proofs.Making.{made_so}
+use Rattle.market.proofs.Making.{made_of}
 use Rattle.market.proofs.NetPrices.{cell_below}
 use Rattle.market.proofs.clearing.net_prices.LinePrices.limits_come.Goals as goal
 use Rattle.market.proofs.clearing.net_prices.LinePrices.limits_come.Goals.{In-loop-line, After-measured-in-loop-line, After-measured-in-loop-line-3, After-mul-lower}
@@ -18,7 +18,7 @@ abbrev s : In-loop-line → PriceSet
 s c = prices_of c.args.self.now.prices.now
 
 made : (c : In-loop-line) → Made (d c)
-made c = made_so (d c) c.args.self.now.day.now.made
+made c = made_of c.args.self.now.day.now
 
 pub measured-requires : goal.measured-requires
 measured-requires c =
