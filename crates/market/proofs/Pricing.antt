@@ -1,32 +1,38 @@
 -- The first cell of a table that is out of its range, and the first price of a row that is. Assumes nothing.
-use Rattle.std.proofs.Common.{◌≡◌, ℕ, ◌+◌, Bool, true, false, not, cond, ltb, List, length, ℤ, pos, neg_ℤ, Some, None, Ok, Err, Option, Result, sym, refl, ◌∙◌, arith}
-use Rattle.std.specs.List.{position_or_len}
+use Rattle.std.proofs.Common.{◌≡◌, ℕ, ◌+◌, Bool, true, false, not, cond, ltb, ◌<◌, Decides, get_or, List, length, ℤ, pos, neg_ℤ, Some, None, Ok, Err, Option, Result, sym, refl, ◌∙◌, arith}
+use Rattle.std.specs.List.{position, position_or_len}
 use Rattle.std.proofs.lemmas.Bool.{not-true, not-false, both_ways, ltb-false}
 use Rattle.std.proofs.lemmas.List.Quantifiers.{position-Some}
 use Rattle.std.proofs.lemmas.List.Sums.{prefix_len_passes}
 use Rattle.market.specs.Fleet.{Meaning, broken, RowPrices, Priced, fault_at, row_fault, unless}
 use Rattle.measures.specs.declared.Grains.{Grains}
 use Rattle.market.specs.declared.broken.Broken.{Broken}
-use Rattle.market.specs.Scans.{in_test, at, InBefore, Outside, first_out}
+use Rattle.market.specs.Scans.{In, in_test, InBefore, Outside, first_out}
 use Rattle.market.proofs.Scanning.{decides_in, scan, scan_is}
 
-untaken : (b : Bool) (n : ℕ) → cond b (Some n) None ≡ None → b ≡ false
+pub untaken : (b : Bool) (n : ℕ) → cond b (Some n) None ≡ None → b ≡ false
 untaken false n e = refl
 untaken true n e = let z : ◌≡◌ {A = ℕ} 0 1 = cc in absurd (omega arith)
+
+-- what a search for the first that fails a test tells, where the test decides a property: all have it, or those before the first and not the first
+module _ {A : Type 0} (test : A → Bool) (Has : A → Type 0) (decides : (x : A) → Decides (test x) (Has x)) (xs : List A) (d : A) where
+  pub none_fails : None ≡ position (λ x. not (test x)) xs → (k : ℕ) → k < length xs → Has (get_or xs k d)
+  none_fails e k l =
+      let n = ltb-false _ _ (untaken (ltb (position_or_len (λ x. not (test x)) xs) (length xs)) _ (sym e)) in
+      (decides (get_or xs k d)).0 (not-false _ (not-true _ (prefix_len_passes (λ x. not (not (test x))) xs k d (omega (arith, n)))))
+
+  pub first_fails : (i : ℕ) → Some i ≡ position (λ x. not (test x)) xs → (i < length xs) × ((k : ℕ) → k < i → Has (get_or xs k d)) × (Has (get_or xs i d) → ⊥)
+  first_fails i e =
+      let p = position-Some (λ x. not (test x)) xs i d (sym e) in
+      (p.0, λ k l. (decides (get_or xs k d)).0 (not-false _ (p.2 k l)), λ h. both_ways (test (get_or xs i d)) (not-true _ p.1) ((decides (get_or xs i d)).1 h))
 
 module _ (low high : ℤ) (xs : List ℤ) where
   -- the first cell out of the range is what a scan tells
   pub outside_told : (r : Option ℕ) → r ≡ first_out low high xs → Outside low high xs r
-  outside_told None e = λ k l.
-      let n = ltb-false _ _ (untaken (ltb (position_or_len (λ x. not (in_test low high x)) xs) (length xs)) _ (sym e)) in
-      (decides_in low high (at xs k)).0 (not-false _ (not-true _ (prefix_len_passes (λ x. not (not (in_test low high x))) xs k (pos 0) (omega (arith, n)))))
+  outside_told None e = none_fails (in_test low high) (In low high) (decides_in low high) xs (pos 0) e
   outside_told (Some i) e =
-      let p = position-Some (λ x. not (in_test low high x)) xs i (pos 0) (sym e) in
-      record {
-        within = p.0;
-        before = λ k l. (decides_in low high (at xs k)).0 (not-false _ (p.2 k l));
-        out = λ h. both_ways (in_test low high (at xs i)) (not-true _ p.1) ((decides_in low high (at xs i)).1 h);
-      }
+      let p = first_fails (in_test low high) (In low high) (decides_in low high) xs (pos 0) i e in
+      record { within = p.0; before = p.1; out = p.2 }
 
   -- and a scan by the order of the cells' type
   pub scan_told : (r : Option ℕ) → r ≡ scan low high xs → Outside low high xs r
