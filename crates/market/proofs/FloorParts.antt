@@ -7,9 +7,9 @@ use Rattle.std.proofs.lemmas.Bool.{cond-true, and_from, lt-ltb, eq-eqb}
 use Rattle.measures.specs.declared.Grains.{Grains}
 use Rattle.market.specs.declared.refusal.Refusal.TheVariants.{Price}
 use Rattle.market.specs.declared.broken.Broken.{Broken}
-use Rattle.market.specs.Bounding.{Over, over, LinesPriced, Ready, Netted, pays, comes, loads_pay, limits_come, PeriodsFloored, RowsFloored, Floored, Bounded}
+use Rattle.market.specs.Bounding.{PricesFit, Over, over, LinesPriced, Ready, Netted, pays, comes, loads_pay, limits_come, PeriodsFloored, RowsFloored, Floored, Bounded}
 use Rattle.market.specs.Clearing.{PriceSet, InRange, part, range, load, net_price, row_prices}
-use Rattle.market.specs.Days.{Numbers, Made}
+use Rattle.market.specs.Days.{Numbers, Made, LimitsFit}
 use Rattle.market.specs.Fleet.{Meaning, Facts, Priced, unless, floor_answer}
 use Rattle.market.specs.Scans.{at, Within, UpTo, FirstOut}
 use Rattle.market.specs.Totals.{total}
@@ -101,16 +101,19 @@ module _ (d : Numbers) (s : PriceSet) (made : Made d) (priced : LinesPriced d s)
   line_cell : (l : ℕ) → l < d.lines → l * d.periods + t < d.lines * d.periods
   line_cell l h = place_below l d.lines d.periods t h on
 
+  -- a limit at its price, of a table of prices and one of limits
+  limit_small : (prices limits : List ℤ) → length prices ≡ d.lines * d.periods → PricesFit prices → length limits ≡ d.lines → LimitsFit limits (length limits)
+      → (l : ℕ) → l < d.lines → Within 200000000000 (at prices (l * d.periods + t) *ℤ at limits l)
+  limit_small prices limits c p e f l h = times_within _ _ 1000000 200000 (up_to (p (l * d.periods + t) (omega (arith, line_cell l h, c)))) (f l (omega (arith, e)))
+
   upper_small : (l : ℕ) → l < d.lines → Within 200000000000 (at s.upper (l * d.periods + t) *ℤ at d.upper l)
-  upper_small l h =
-      times_within _ _ 1000000 200000 (up_to (priced.upper (l * d.periods + t) (omega (arith, line_cell l h, priced.upper_cells)))) (made.upper l (omega (arith, made.lengths.upper)))
+  upper_small = limit_small s.upper d.upper priced.upper_cells priced.upper made.lengths.upper made.upper
 
   pub upper_worth : (l : ℕ) → l < d.lines → (x : ℤ) → x ≡ (pos 1000 *ℤ at s.upper (l * d.periods + t)) *ℤ at d.upper l → Within 200000000000000 x
   upper_worth l h x e = scaled x (at s.upper (l * d.periods + t)) (at d.upper l) e (upper_small l h)
 
   lower_small : (l : ℕ) → l < d.lines → Within 200000000000 (at s.lower (l * d.periods + t) *ℤ at d.lower l)
-  lower_small l h =
-      times_within _ _ 1000000 200000 (up_to (priced.lower (l * d.periods + t) (omega (arith, line_cell l h, priced.lower_cells)))) (made.lower l (omega (arith, made.lengths.lower)))
+  lower_small = limit_small s.lower d.lower priced.lower_cells priced.lower made.lengths.lower made.lower
 
   pub lower_worth : (l : ℕ) → l < d.lines → (x : ℤ) → x ≡ (pos 1000 *ℤ at s.lower (l * d.periods + t)) *ℤ at d.lower l → Within 200000000000000 x
   lower_worth l h x e = scaled x (at s.lower (l * d.periods + t)) (at d.lower l) e (lower_small l h)

@@ -18,3 +18,4 @@ pub mod Alike
 pub mod Alone
 pub mod PricesAlike
 pub mod Computing
+mod Labels

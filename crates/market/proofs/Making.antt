@@ -1,9 +1,10 @@
 -- A day's questions, by tests and by what they mean. Assumes nothing.
 use Rattle.std.proofs.Common.{◌≡◌, ℕ, ◌+◌, ◌/◌, ◌%◌, true, false, ◌&&◌, leb, length, pos, neg_ℤ, Decides, sym, subst, mod-lt, div-add-mod'}
 use Rattle.std.proofs.lemmas.Bool.{and_parts, and_from, leb-true, le-leb, eqb-true, eq-eqb, both_ways}
+use Rattle.market.specs.declared.day.Day.{Day}
 use Rattle.market.specs.declared.day_fault.DayFault.TheVariants.{Shape, Lengths, Load, Factor}
 use Rattle.market.specs.Days as Days
-use Rattle.market.specs.Days.{Fits, Numbers, ShapeFits, LengthsFit, Made, UpToLoads, UpToFactors, UpToOrder, Refused, load, factor, shape_test, lengths_test, made_test}
+use Rattle.market.specs.Days.{Fits, Numbers, ShapeFits, LengthsFit, Made, UpToLoads, UpToFactors, UpToOrder, Refused, load, factor, shape_test, lengths_test, made_test, numbers_of}
 use Rattle.market.specs.Scans.{FirstOut, Ordered}
 use Rattle.market.proofs.Scanning.{decides_all, decides_ordered}
 
@@ -88,3 +89,7 @@ module _ (d : Numbers) where
         ordered = subst (Ordered d.lower d.upper) loads.lengths.lower ordered;
       } in
       record { test = made_told m; made = m }
+
+-- what a day knows of its numbers
+pub made_of : (day : Day) → Made (numbers_of day.numbers)
+made_of day = made_so (numbers_of day.numbers) day.made

@@ -1,10 +1,12 @@
 -- Tests on ranges, and what they tell. Assumes nothing.
-use Rattle.std.proofs.Common.{◌≡◌, ℕ, Bool, true, false, T, List, length, ℤ, ◌≤ℤ◌, Decides, sym, refl, ◌∙◌, subst, arith}
+use Rattle.std.proofs.Common.{◌≡◌, ℕ, Bool, true, false, not, cond, ◌&&◌, ◌||◌, Less, Equal, Greater, Option, T, List, length, ℤ, ◌≤ℤ◌, Decides, sym, refl, ◌∙◌, subst, arith}
+use Rattle.std.specs.List.{position}
+use Rattle.std.specs.Ordering.{int_cmp, is_lt, is_gt}
 use lib.Signed.{le_z, lt_z, le_z_yes}
 use Rattle.std.proofs.lemmas.Int.{ints}
 use Rattle.std.proofs.lemmas.Bool.{and_parts, and_from}
 use Rattle.std.proofs.lemmas.Bool.Decides.{Decides-below_and}
-use Rattle.market.specs.Scans.{In, in_test, at, InBefore, all_below, in_all, Ordered}
+use Rattle.market.specs.Scans.{In, in_test, at, InBefore, all_below, in_all, Ordered, first_out}
 
 -- the test of an order of integers
 told : (b : Bool) → T b → b ≡ true
@@ -43,3 +45,43 @@ decides_all low high xs =
 pub decides_ordered : (xs ys : List ℤ) (n : ℕ) → Decides (all_below (λ k. le_z (at xs k) (at ys k)) n) (Ordered xs ys n)
 decides_ordered xs ys n =
     Decides-below_and (λ k. le_z (at xs k) (at ys k)) (λ k. at xs k ≤ℤ at ys k) (all_below (λ k. le_z (at xs k) (at ys k))) (λ k. decides_le (at xs k) (at ys k)) refl (λ n. refl) n
+
+-- which of two numbers is the smaller, by the order of their type and by tests
+smaller : (a b : Bool) → is_lt (cond a Less (cond b Greater Equal)) ≡ a
+smaller true b = refl
+smaller false true = refl
+smaller false false = refl
+
+larger : (x y : ℤ) (a b : Bool) → lt_z x y ≡ a → lt_z y x ≡ b → is_gt (cond a Less (cond b Greater Equal)) ≡ b
+larger x y true true e f = absurd (grind (arith, ints))
+larger x y true false e f = refl
+larger x y false true e f = refl
+larger x y false false e f = refl
+
+strict : (x y : ℤ) (a b : Bool) → lt_z x y ≡ a → le_z y x ≡ b → a ≡ not b
+strict x y true true e f = absurd (grind (arith, ints))
+strict x y true false e f = refl
+strict x y false true e f = refl
+strict x y false false e f = absurd (grind (arith, ints))
+
+pub lt_is : (x y : ℤ) → is_lt (int_cmp x y) ≡ lt_z x y
+lt_is x y = smaller (lt_z x y) (lt_z y x)
+
+pub gt_is : (x y : ℤ) → is_gt (int_cmp x y) ≡ lt_z y x
+gt_is x y = larger x y (lt_z x y) (lt_z y x) refl refl
+
+either : (c d : Bool) → (not c || not d) ≡ not (c && d)
+either true d = refl
+either false d = refl
+
+apart : (low high x : ℤ) → (is_lt (int_cmp x low) || is_gt (int_cmp x high)) ≡ not (in_test low high x)
+apart low high x =
+    (λ j. (lt_is x low ∙ strict x low (lt_z x low) (le_z low x) refl refl) j || (gt_is x high ∙ strict high x (lt_z high x) (le_z x high) refl refl) j)
+    ∙ either (le_z low x) (le_z x high)
+
+-- a scan by the order of the cells' type finds the first cell that is out of its range
+abbrev pub scan : ℤ → ℤ → List ℤ → Option ℕ
+scan low high xs = position (λ x. is_lt (int_cmp x low) || is_gt (int_cmp x high)) xs
+
+pub scan_is : (low high : ℤ) (xs : List ℤ) → scan low high xs ≡ first_out low high xs
+scan_is low high xs = λ j. position (λ x. apart low high x j) xs

@@ -1,10 +1,13 @@
 // What every fleet asks before it answers: whether it has the row, whether every list has a cell for each period, and whether every price is
-// within its limits.
-ghost use Rattle.std.specs.Prelude.{◌≡◌, pos, neg_ℤ, nat_lt};
-ghost use Rattle.market.specs.Fleet.{asked, unless, row_fault, schedule_of, row_prices_of, schedule_listed, prices_listed, prices_asked};
-ghost use Rattle.market.specs.Scans.{first_out};
+// within its limits. Row, size and periods are three numbers and no struct: each call is the first line of a fleet's answer, and a struct would be
+// built there only to be taken apart.
+ghost use Rattle.std.specs.Prelude.{◌≡◌, ◌||◌, None, nat_lt};
+ghost use Rattle.std.specs.List.{position};
+ghost use Rattle.std.specs.Ordering.{partial_lt, partial_gt};
+ghost use Rattle.market.specs.Fleet.{asked, unless, fault_at, row_fault, schedule_of, row_prices_of, schedule_listed, prices_listed, prices_asked};
 
 use crate::broken::Broken;
+use crate::price_set::MOST_PRICE;
 use crate::row_prices::RowPrices;
 use crate::scan::first_outside;
 use crate::schedule::Schedule;
@@ -15,10 +18,8 @@ const LENGTHS: Broken = Broken { rule: 8, period: 0 };
 // The number of the question on prices.
 const LIMITS: u8 = 19;
 
-// The limits of a net price, in grains per tenth and period, and of the price of a rise or a fall, in fen.
+// The limit of a net price to either side of zero, in grains per tenth and period.
 const MOST_NET: i64 = 17_000_000_000;
-
-const MOST_PRICE: i32 = 1_000_000;
 
 // 8 unless the row is below the size.
 pub fn row_asked(row: usize, size: usize) -> Result<(), Broken>
@@ -56,28 +57,26 @@ fn listed(row: usize, size: usize, periods: usize, prices: &RowPrices) -> Result
     }
 }
 
-// The first net price outside its limits.
-fn first_net(net: &[i64]) -> Option<usize>
-    ensures { result ≡ first_out (neg_ℤ (pos 17000000000)) (pos 17000000000) net.now }
+// 19 with the first period of a price outside these limits.
+fn within<T: PartialOrd>(prices: &[T], low: &T, high: &T) -> Result<(), Broken>
+    ensures { result ≡ unless (fault_at (position (λ x. partial_lt T.partial_cmp x low.now || partial_gt T.partial_cmp x high.now) prices.now) None) tt }
 {
-    net.iter()
-        .position(|price| *price < -MOST_NET || *price > MOST_NET)
-}
-
-// 19 with the first period of a price outside its limits: net prices, then prices of rises, then of falls.
-fn within_limits(prices: &RowPrices) -> Result<(), Broken>
-    ensures { result ≡ unless (row_fault (row_prices_of prices.now)) tt }
-{
-    let first = first_net(prices.net)
-        .or_else(|| first_outside(prices.rise, 0, MOST_PRICE))
-        .or_else(|| first_outside(prices.fall, 0, MOST_PRICE));
-    match first {
+    match first_outside(prices, low, high) {
         Some(period) => Err(Broken {
             rule: LIMITS,
             period: period + 1,
         }),
         None => Ok(()),
     }
+}
+
+// 19 with the first period of a price outside its limits: net prices, then prices of rises, then of falls.
+fn within_limits(prices: &RowPrices) -> Result<(), Broken>
+    ensures { result ≡ unless (row_fault (row_prices_of prices.now)) tt }
+{
+    within(prices.net, &-MOST_NET, &MOST_NET)?;
+    within(prices.rise, &0, &MOST_PRICE)?;
+    within(prices.fall, &0, &MOST_PRICE)
 }
 
 // 8 unless the row is below the size and has prices for each period; then 19 with the period of the first that is outside its limits.

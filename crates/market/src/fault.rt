@@ -1,4 +1,5 @@
 // What every no tells: the number of its question, with the place (a row, a line or a node) and the period that it names, 0 where it names none.
+// Place and period are told as numbers, 0 where there is none, as solvers read them.
 ghost use Rattle.std.specs.Prelude.{◌≡◌, ℕ};
 
 pub trait Fault {

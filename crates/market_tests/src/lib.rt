@@ -6,21 +6,15 @@ mod tests {
     use fleets::{Fixed, Joined, Renewables};
     use kinds::{Curve, CurveNumbers, Station};
     use market::{Day, DayNumbers, Fault, Plan, PriceSet, bound, judge};
-    use measures::{Grains, NetPrice, Tenths};
+    use measures::{NetPrice, Tenths};
 
-    // Number, place and period of a refusal, or 0 and then the amount.
-    #[derive(Clone, Copy, PartialEq, Eq, Debug)]
-    struct Answer(u8, usize, usize, i64);
+    // Number, place and period of a refusal.
+    type No = (u8, usize, usize);
 
-    fn told(answer: Result<Grains, Answer>) -> Answer {
-        match answer {
-            Ok(amount) => Answer(0, 0, 0, amount.0),
-            Err(no) => no,
-        }
-    }
+    type Answer = Result<i64, No>;
 
-    fn refused(fault: impl Fault + Drop) -> Answer {
-        Answer(fault.number(), fault.place(), fault.period(), 0)
+    fn refused(fault: impl Fault + Drop) -> No {
+        (fault.number(), fault.place(), fault.period())
     }
 
     const LOADS: [i32; 6] = [-100, -50, 300, 200, 400, 500];
@@ -48,7 +42,7 @@ mod tests {
     const AVAILABLE: [i32; 2] = [200, 250];
 
     // The day of two periods, three nodes and two lines, with these limits.
-    fn made<'a>(lower: &'a [i32], upper: &'a [i32]) -> Result<Day<'a>, Answer> {
+    fn made<'a>(lower: &'a [i32], upper: &'a [i32]) -> Result<Day<'a>, No> {
         let mut day = Day::smallest();
         day.make(DayNumbers {
             periods: 2,
@@ -64,7 +58,7 @@ mod tests {
     }
 
     // The three rows.
-    fn rows<'a>() -> Result<Joined<Fixed<'a>, Renewables<'a>>, Answer> {
+    fn rows<'a>() -> Result<Joined<Fixed<'a>, Renewables<'a>>, No> {
         let mut first = Fixed::none();
         first.make(2, &NODES, &FIXED).map_err(refused)?;
         let mut second = Renewables::none();
@@ -72,12 +66,10 @@ mod tests {
         Ok(Joined { first, second })
     }
 
-    fn cost(lower: &[i32], upper: &[i32], marks: &[u8], outputs: &[i32]) -> Result<Grains, Answer> {
-        judge(&made(lower, upper)?, &rows()?, &Plan { marks, outputs }).map_err(refused)
-    }
-
     fn judged(lower: &[i32], upper: &[i32], marks: &[u8], outputs: &[i32]) -> Answer {
-        told(cost(lower, upper, marks, outputs))
+        let plan = Plan { marks, outputs };
+        let cost = judge(&made(lower, upper)?, &rows()?, &plan).map_err(refused)?;
+        Ok(cost.0)
     }
 
     #[test]
@@ -86,52 +78,52 @@ mod tests {
         let lawful = [350, 300, 150, 200, 100, 150];
         assert_eq!(rt;
             judged(&LOWER, &UPPER, &run, &lawful),
-            Answer(0, 0, 0, 3_000_000_000),
+            Ok(3_000_000_000),
             "every limit but one binds"
         );
         assert_eq!(rt;
             judged(&LOWER, &[262, 245], &run, &lawful),
-            Answer(17, 0, 1, 0),
+            Err((17, 0, 1)),
             "262.5 over line 0"
         );
         assert_eq!(rt;
             judged(&[176, 165], &UPPER, &run, &lawful),
-            Answer(18, 0, 2, 0),
+            Err((18, 0, 2)),
             "175 over line 0"
         );
         assert_eq!(rt;
             judged(&LOWER, &[263, 244], &run, &lawful),
-            Answer(17, 1, 2, 0),
+            Err((17, 1, 2)),
             "245 over line 1"
         );
         assert_eq!(rt;
             judged(&[175, 166], &UPPER, &run, &lawful),
-            Answer(18, 1, 1, 0),
+            Err((18, 1, 1)),
             "165 over line 1"
         );
         assert_eq!(rt;
             judged(&LOWER, &[262, 244], &run, &[350, 300, 150, 200, 100, 151]),
-            Answer(17, 0, 1, 0),
+            Err((17, 0, 1)),
             "an earlier period first"
         );
         assert_eq!(rt;
             judged(&LOWER, &UPPER, &run, &[350, 300, 150, 200, 101, 150]),
-            Answer(16, 0, 1, 0),
+            Err((16, 0, 1)),
             "one tenth too much"
         );
         assert_eq!(rt;
             judged(&LOWER, &UPPER, &run, &[351, 300, 150, 200, 100, 150]),
-            Answer(11, 0, 1, 0),
+            Err((11, 0, 1)),
             "not the fixed output"
         );
         assert_eq!(rt;
             judged(&LOWER, &UPPER, &run, &[350, 300, 150, 200, 201, 150]),
-            Answer(11, 2, 1, 0),
+            Err((11, 2, 1)),
             "more than is available"
         );
         assert_eq!(rt;
             judged(&LOWER, &UPPER, &[1, 1, 1, 0, 1, 1], &lawful),
-            Answer(10, 1, 2, 0),
+            Err((10, 1, 2)),
             "a mark of 0"
         );
         assert_eq!(rt;
@@ -141,38 +133,31 @@ mod tests {
                 &[1, 1, 1, 0, 1, 1],
                 &[350, 301, 150, 200, 100, 150]
             ),
-            Answer(11, 0, 2, 0),
+            Err((11, 0, 2)),
             "an earlier row first"
         );
         assert_eq!(rt;
             judged(&LOWER, &UPPER, &[1u8; 5], &lawful),
-            Answer(8, 0, 0, 0),
+            Err((8, 0, 0)),
             "a mark missing"
         );
         assert_eq!(rt;
             judged(&[176, 165], &[175, 245], &run, &lawful),
-            Answer(3, 0, 0, 0),
+            Err((3, 0, 0)),
             "lower above upper"
         );
     }
 
-    fn floor(system: &[i32], upper: &[i32], fall: &[i32]) -> Result<Grains, Answer> {
-        bound(
-            &made(&LOWER, &UPPER)?,
-            &rows()?,
-            &PriceSet {
-                system,
-                upper,
-                lower: &[0, 1_000, 500, 0],
-                rise: &[0; 6],
-                fall,
-            },
-        )
-        .map_err(refused)
-    }
-
     fn bounded(system: &[i32], upper: &[i32], fall: &[i32]) -> Answer {
-        told(floor(system, upper, fall))
+        let prices = PriceSet {
+            system,
+            upper,
+            lower: &[0, 1_000, 500, 0],
+            rise: &[0; 6],
+            fall,
+        };
+        let floor = bound(&made(&LOWER, &UPPER)?, &rows()?, &prices).map_err(refused)?;
+        Ok(floor.0)
     }
 
     #[test]
@@ -181,11 +166,11 @@ mod tests {
         let none = [0; 6];
         assert_eq!(rt;
             bounded(&[15_000, 25_000], &upper, &none),
-            Answer(0, 0, 0, 2_289_000_000)
+            Ok(2_289_000_000)
         );
         assert_eq!(rt;
             bounded(&[15_000, 1_000_001], &upper, &none),
-            Answer(19, 0, 2, 0)
+            Err((19, 0, 2))
         );
         assert_eq!(rt;
             bounded(
@@ -193,22 +178,22 @@ mod tests {
                 &[2_000, 0, -1, 3_000],
                 &[0, 0, 0, 0, 0, 1_000_001]
             ),
-            Answer(19, 1, 1, 0),
+            Err((19, 1, 1)),
             "limits before falls"
         );
         assert_eq!(rt;
             bounded(&[15_000, 25_000], &upper, &[0, 0, 0, 0, 0, 1_000_001]),
-            Answer(19, 2, 2, 0)
+            Err((19, 2, 2))
         );
-        assert_eq!(rt; bounded(&[15_000], &upper, &none), Answer(8, 0, 0, 0));
+        assert_eq!(rt; bounded(&[15_000], &upper, &none), Err((8, 0, 0)));
     }
 
-    // A day of two periods and one node, which feeds in 20,000 in the first; its fleet has two fixed rows.
-    fn fitting(periods: usize, outputs: &[i32], count: usize) -> Result<Grains, Answer> {
+    // A day of two periods, which feeds in 20,000 in the first, with loads for one node; its fleet has two fixed rows.
+    fn fitted(periods: usize, outputs: &[i32], nodes: usize) -> Answer {
         let mut day = Day::smallest();
         day.make(DayNumbers {
             periods: 2,
-            nodes: count,
+            nodes,
             lines: 0,
             loads: &[-20_000, 15],
             factors: &[],
@@ -222,45 +207,43 @@ mod tests {
             marks: &[1, 1, 1, 1],
             outputs,
         };
-        judge(&day, &fleet, &plan).map_err(refused)
-    }
-
-    fn fitted(periods: usize, outputs: &[i32], count: usize) -> Answer {
-        told(fitting(periods, outputs, count))
+        let cost = judge(&day, &fleet, &plan).map_err(refused)?;
+        Ok(cost.0)
     }
 
     #[test]
     fn tables(rt: HostRuntime) {
         assert_eq!(rt;
             fitted(2, &[-20_000, 7, 0, 8], 2),
-            Answer(2, 0, 0, 0),
+            Err((2, 0, 0)),
             "loads for one node only"
         );
         assert_eq!(rt;
             fitted(2, &[-20_000, 7, 0, 8], 1),
-            Answer(6, 1, 0, 0),
+            Err((6, 1, 0)),
             "row 1 stands at node 1"
         );
-        assert_eq!(rt; fitted(2, &[-20_000, 7, 0, 20_001], 1), Answer(5, 1, 2, 0));
-        assert_eq!(rt; fitted(2, &[-20_001, 7, 0, 20_001], 1), Answer(5, 0, 1, 0));
+        assert_eq!(rt; fitted(2, &[-20_000, 7, 0, 20_001], 1), Err((5, 1, 2)));
+        assert_eq!(rt; fitted(2, &[-20_001, 7, 0, 20_001], 1), Err((5, 0, 1)));
         assert_eq!(rt;
             fitted(1, &[-20_000, 7], 1),
-            Answer(4, 0, 0, 0),
+            Err((4, 0, 0)),
             "another day's periods"
         );
-        assert_eq!(rt; fitted(97, &[-20_000, 7], 1), Answer(1, 0, 0, 0));
-        assert_eq!(rt; fitted(2, &[-20_000, 7], 1), Answer(2, 0, 0, 0));
+        assert_eq!(rt; fitted(97, &[-20_000, 7], 1), Err((1, 0, 0)));
+        assert_eq!(rt; fitted(2, &[-20_000, 7], 1), Err((2, 0, 0)));
     }
 
-    // The first no of a curve of these numbers, with the least of running cost less 15,000,000 a tenth from low to high where there is none.
-    fn curved(numbers: CurveNumbers, low: i32, high: i32) -> Answer {
-        match Curve::try_from(&numbers) {
-            Ok(curve) => match curve.least(NetPrice(15_000_000), Tenths(low), Tenths(high)) {
-                Some(least) => Answer(0, 0, 0, least.0),
-                None => Answer(0, 1, 0, curve.running_cost(Tenths(high)).0),
-            },
-            Err(fault) => refused(fault),
-        }
+    // The least of running cost less 15,000,000 a tenth from low to high, or None past the curve's end; or the first no of a curve of these numbers.
+    fn least(numbers: CurveNumbers, low: i32, high: i32) -> Result<Option<i64>, No> {
+        let curve = Curve::try_from(&numbers).map_err(refused)?;
+        let least = curve.least(NetPrice(15_000_000), Tenths(low), Tenths(high));
+        Ok(least.map(|amount| amount.0))
+    }
+
+    fn running(numbers: CurveNumbers, output: i32) -> Answer {
+        let curve = Curve::try_from(&numbers).map_err(refused)?;
+        Ok(curve.running_cost(Tenths(output)).0)
     }
 
     #[test]
@@ -271,24 +254,21 @@ mod tests {
             prices: [-10_000, 14_000, 16_000, 0, 0, 0, 0, 0, 0, 0],
         };
         // At 50: -500,000,000 less 750,000,000. From there each tenth takes off 25,000,000 up to 100, and 1,000,000 up to 200.
-        assert_eq!(rt; curved(numbers, 50, 300), Answer(0, 0, 0, -2_600_000_000));
-        assert_eq!(rt; curved(numbers, 50, 150), Answer(0, 0, 0, -2_550_000_000));
-        assert_eq!(rt; curved(numbers, 250, 300), Answer(0, 0, 0, -2_550_000_000));
-        assert_eq!(rt;
-            curved(numbers, 50, 301),
-            Answer(0, 1, 0, 2_000_000_000),
-            "past the last end"
-        );
+        assert_eq!(rt; least(numbers, 50, 300), Ok(Some(-2_600_000_000)));
+        assert_eq!(rt; least(numbers, 50, 150), Ok(Some(-2_550_000_000)));
+        assert_eq!(rt; least(numbers, 250, 300), Ok(Some(-2_550_000_000)));
+        assert_eq!(rt; least(numbers, 50, 301), Ok(None), "past the last end");
+        assert_eq!(rt; running(numbers, 301), Ok(2_000_000_000));
         numbers.prices[2] = 13_999;
-        assert_eq!(rt; curved(numbers, 50, 300), Answer(7, 0, 0, 0));
+        assert_eq!(rt; least(numbers, 50, 300), Err((7, 0, 0)));
         numbers.ends[3] = 200;
         numbers.ends[0] = -1;
         assert_eq!(rt;
-            curved(numbers, 50, 300),
-            Answer(5, 0, 0, 0),
+            least(numbers, 50, 300),
+            Err((5, 0, 0)),
             "ranges before order"
         );
         numbers.segments = 11;
-        assert_eq!(rt; curved(numbers, 50, 300), Answer(2, 0, 0, 0));
+        assert_eq!(rt; least(numbers, 50, 300), Err((2, 0, 0)));
     }
 }

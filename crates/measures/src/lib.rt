@@ -2,7 +2,7 @@
 // a product of two measures, and its factor is exact.
 #![tactic(auto)]
 
-ghost use Rattle.std.specs.Prelude.{◌≡◌, pos, ◌+ℤ◌, ◌-ℤ◌, ◌*ℤ◌, FitsSigned, Some, int_lt};
+ghost use Rattle.std.specs.Prelude.{◌≡◌, pos, ◌+ℤ◌, ◌-ℤ◌, ◌*ℤ◌, FitsSigned, Some};
 ghost use Rattle.std.specs.Fmt.{signed_decimal};
 ghost use Rattle.std.specs.Int.{w32, w64};
 
@@ -10,31 +10,31 @@ use std::fmt;
 use std::ops::{Add, Mul, Sub};
 
 // Power in tenths of a megawatt, positive when fed in.
-#[derive(Clone, Copy, PartialEq, Eq, PartialOrd, Ord)]
+#[derive(Clone, Copy, Debug, PartialEq, Eq, PartialOrd, Ord)]
 pub struct Tenths(pub i32);
 
 // A price in fen (hundredths of a yuan) per megawatt-hour.
-#[derive(Clone, Copy, PartialEq, Eq, PartialOrd, Ord)]
+#[derive(Clone, Copy, Debug, PartialEq, Eq, PartialOrd, Ord)]
 pub struct Fen(pub i32);
 
 // Money in whole yuan.
-#[derive(Clone, Copy, PartialEq, Eq, PartialOrd, Ord)]
+#[derive(Clone, Copy, Debug, PartialEq, Eq, PartialOrd, Ord)]
 pub struct Yuan(pub u32);
 
 // Money in grains, 4,000,000 to the yuan.
-#[derive(Clone, Copy, PartialEq, Eq, PartialOrd, Ord)]
+#[derive(Clone, Copy, Debug, PartialEq, Eq, PartialOrd, Ord)]
 pub struct Grains(pub i64);
 
 // A price in grains per tenth of a megawatt and period.
-#[derive(Clone, Copy, PartialEq, Eq, PartialOrd, Ord)]
+#[derive(Clone, Copy, Debug, PartialEq, Eq, PartialOrd, Ord)]
 pub struct NetPrice(pub i64);
 
 // The share of the power fed in at a node that flows over a line, in thousandths.
-#[derive(Clone, Copy, PartialEq, Eq, PartialOrd, Ord)]
+#[derive(Clone, Copy, Debug, PartialEq, Eq, PartialOrd, Ord)]
 pub struct Factor(pub i32);
 
 // Flow over a line, in thousandths of a tenth of a megawatt.
-#[derive(Clone, Copy, PartialEq, Eq, PartialOrd, Ord)]
+#[derive(Clone, Copy, Debug, PartialEq, Eq, PartialOrd, Ord)]
 pub struct Flow(pub i64);
 
 const GRAINS_OF_YUAN: i64 = 4_000_000;
@@ -44,7 +44,8 @@ const GRAINS_OF_FEN: i64 = 1_000;
 
 const THOUSANDTHS: i64 = 1_000;
 
-// A number that is told in a measure.
+// A number that is told in a measure. By a rule of the project each measure is a struct around one number of its own, so each has its own From,
+// Add, Sub and Mul; one impl would take one struct for all.
 impl From<i32> for Tenths {
     ghost from_gives = { λ number measured. measured.0 ≡ number };
 
@@ -78,6 +79,7 @@ impl From<i64> for NetPrice {
 }
 
 impl Yuan {
+    // By an exact factor: a named conversion and no From, by a rule of the project.
     pub fn grains(self) -> Grains
         ensures { result.0 ≡ pos 4000000 *ℤ pos self.0 }
     {
@@ -86,7 +88,7 @@ impl Yuan {
 }
 
 impl Fen {
-    // What the price comes to on each tenth of a megawatt in a period.
+    // What the price comes to on each tenth of a megawatt in a period: named and no From, since it takes the amount to another meaning.
     pub fn net(self) -> NetPrice
         ensures { result.0 ≡ pos 1000 *ℤ self.0 }
     {
@@ -95,7 +97,7 @@ impl Fen {
 }
 
 impl Tenths {
-    // The flow of this power where all of it goes over the line.
+    // The flow of this power where all of it goes over the line: named and no From, since it takes the amount to another meaning.
     pub fn flow(self) -> Flow
         ensures { result.0 ≡ pos 1000 *ℤ self.0 }
     {
@@ -103,16 +105,6 @@ impl Tenths {
     }
 }
 
-impl Flow {
-    pub fn exceeds(self, other: Flow) -> bool
-        ensures { result ≡ int_lt other.0 self.0 }
-    {
-        self > other
-    }
-}
-
-// Each measure has its own sum and difference: one impl for all would take one struct for all, and each measure stays a struct around one
-// number of its own.
 impl Add<Tenths> for Tenths {
     type Output = Tenths;
 

@@ -1,4 +1,5 @@
 // A plan judged: row by row, and then period by period.
+// A period stays a number below the day's: a struct for it would hold the day beside one number.
 ghost use Rattle.std.specs.Prelude.{◌≡◌, ℕ, ◌<◌, ◌≤◌, length, ◌*ℤ◌};
 ghost use Rattle.std.specs.Prelude.{Err, MatchResult};
 ghost use Rattle.market.specs.Clearing.{RowsKept, factor, part, row as row_of};
@@ -13,13 +14,15 @@ ghost use Rattle.market.specs.Totals.{total};
 use crate::day::Day;
 use crate::fleet::Fleet;
 use crate::lengths::plan_lengths;
+use crate::numbers::MOST_NODES;
 use crate::placing::place;
 use crate::plan::Plan;
 use crate::refusal::Refusal;
 use crate::schedule::Schedule;
 use measures::{Factor, Flow, Grains, Tenths};
 
-// A plan that has its lengths, for a fleet that fits the day.
+// A plan that has its lengths, for a fleet that fits the day. The same struct for bounding a price set stands beside it:
+// one over both would hold its fact by a parameter, and is no plainer.
 struct Offer<'a, F: Fleet> {
     day: &'a Day<'a>,
     fleet: &'a F,
@@ -38,10 +41,7 @@ impl<F: Fleet> Drop for Offer<'_, F> {
     }
 }
 
-// What the nodes feed in lies in an array, since judging may not run out of memory.
-const MOST_NODES: usize = 16;
-
-// What each node draws in a period, below zero. The loads of one period lie a row of the table apart, so they are walked by number; `array::from_fn`
+// What each node draws in a period, below zero, in an array, since judging may not run out of memory. The loads of one period lie a row of the table apart, so they are walked by number; `array::from_fn`
 // was tried, and that its closure may be called at every node was not proved.
 fn drawn(day: &Day, period: usize) -> [i32; MOST_NODES]
     requires { period < day.now.numbers.periods }
@@ -117,10 +117,10 @@ impl Injections<'_> {
             let carried = self.flow(line);
             let upper = Tenths(day.upper[line]).flow();
             let lower = Tenths(day.lower[line]).flow();
-            if carried.exceeds(upper) {
+            if carried > upper {
                 return Err(Refusal::Upper { line, period });
             }
-            if lower.exceeds(carried) {
+            if carried < lower {
                 return Err(Refusal::Lower { line, period });
             }
         }

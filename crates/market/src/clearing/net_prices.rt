@@ -1,5 +1,6 @@
 // Net prices: what a tenth of a megawatt fed in at a node is worth in a period. Periods count from 0 here.
-// The cells of one period lie a row of their table apart, so these walks go by number: chunks would only be taken to read one cell of each.
+// A period stays a number below the day's: a struct for it would hold the day beside one number.
+// The walks go by number: tables with different steps would be zipped, which is no plainer.
 mod bounding;
 
 ghost use Rattle.std.specs.Prelude.{◌≡◌, ◌<◌, length, slice_index_or};
@@ -8,6 +9,7 @@ ghost use Rattle.market.specs.Clearing.{net_price};
 ghost use Rattle.market.specs.Days.{numbers_of};
 
 use crate::day::Day;
+use crate::numbers::{MOST_NODES, MOST_PERIODS};
 use crate::price_set::PriceSet;
 pub use bounding::bound;
 use measures::{Factor, Fen, Grains, NetPrice, Tenths};
@@ -28,8 +30,8 @@ struct LinePrices<'a> {
     ghost priced: { LinesPriced (numbers_of day.now.numbers) (prices_of prices.now) },
 }
 
-// A cell for each of 16 nodes and 96 periods: an array, since bounding may not run out of memory.
-const MOST_CELLS: usize = 1_536;
+// A cell for each node and period: an array, since bounding may not run out of memory.
+const MOST_CELLS: usize = MOST_NODES * MOST_PERIODS;
 
 // The net prices that they make, node by node and then by period.
 #[derive(Drop)]

@@ -5,12 +5,8 @@ ghost use Rattle.market.specs.Scans.{Crossed};
 
 use crate::day::Day;
 use crate::day_fault::DayFault;
-use crate::numbers::DayNumbers;
+use crate::numbers::{DayNumbers, MOST_NODES, MOST_PERIODS};
 use crate::scan::outside;
-
-const MOST_PERIODS: usize = 96;
-
-const MOST_NODES: usize = 16;
 
 const MOST_LINES: usize = 16;
 

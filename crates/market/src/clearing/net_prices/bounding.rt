@@ -11,15 +11,14 @@ use crate::day::Day;
 use crate::fleet::Fleet;
 use crate::lengths::price_lengths;
 use crate::placing::place;
-use crate::price_set::PriceSet;
+use crate::price_set::{MOST_PRICE, PriceSet};
 use crate::refusal::Refusal;
 use crate::row_prices::RowPrices;
 use crate::scan::outside;
 use measures::Grains;
 
-const MOST_PRICE: i32 = 1_000_000;
-
-// A price set that has its lengths and is in range, for a fleet that fits the day.
+// A price set that has its lengths and is in range, for a fleet that fits the day. The same struct for judging a plan stands beside it:
+// one over both would hold its fact by a parameter, and is no plainer.
 struct Offer<'a, F: Fleet> {
     day: &'a Day<'a>,
     fleet: &'a F,
@@ -70,7 +69,7 @@ fn in_range(prices: &PriceSet, count: usize) -> Result<(), Refusal>
 }
 
 impl<F: Fleet> Offer<'_, F> {
-    // The rows' floors. Each row's part of the tables is handed to the fleet in place.
+    // The rows' floors. A fleet is asked by a row's number, and its part of each table is cut by it.
     fn rows_floor(&self, nets: &[i64]) -> Grains
         requires { Netted (numbers_of self.now.day.now.numbers) (prices_of self.now.prices.now) nets.now }
         ensures { RowsFloored (numbers_of self.now.day.now.numbers) (meaning F.Fleet self.now.fleet.now) (prices_of self.now.prices.now) (F.size self.now.fleet.now) result.0 }

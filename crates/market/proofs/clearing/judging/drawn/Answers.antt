@@ -4,12 +4,12 @@ use Rattle.market.specs.Clearing.{load}
 use Rattle.market.specs.Days.{Made, numbers_of}
 use Rattle.market.specs.Scans.{Within}
 use Rattle.market.proofs.Cells.{place_below, set_more}
-use Rattle.market.proofs.Making.{made_so}
+use Rattle.market.proofs.Making.{made_of}
 use Rattle.market.proofs.clearing.judging.drawn.Goals as goal
 use Rattle.market.proofs.clearing.judging.drawn.Goals.{In-loop-node}
 
 made : (c : In-loop-node) → Made (numbers_of c.args.day.now.numbers)
-made c = made_so (numbers_of c.args.day.now.numbers) c.args.day.now.made
+made c = made_of c.args.day.now
 
 inside : (c : In-loop-node) → c.loop-node.node * c.args.day.now.numbers.periods + c.args.period < length c.args.day.now.numbers.loads.now
 inside c =

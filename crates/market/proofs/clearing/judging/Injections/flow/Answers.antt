@@ -10,7 +10,7 @@ use Rattle.market.specs.Scans.{Within, at}
 use Rattle.market.specs.Totals.{total}
 use Rattle.market.proofs.Cells.{at_part, length_part, place_below}
 use Rattle.market.proofs.Ints.{times_within}
-use Rattle.market.proofs.Making.{made_so}
+use Rattle.market.proofs.Making.{made_of}
 use Rattle.market.proofs.Totals.{total_more, total_within}
 use Rattle.market.proofs.clearing.judging.Injections.flow.Goals as goal
 use Rattle.market.proofs.clearing.judging.Injections.flow.Goals.{In-Some, In-None}
@@ -20,7 +20,7 @@ abbrev term : (c : In-Some) → ℕ → ℤ
 term c k = factor (numbers_of c.args.self.now.day.now.numbers) c.args.line k *ℤ at c.args.self.now.fed.now k
 
 made : (c : In-Some) → Made (numbers_of c.args.self.now.day.now.numbers)
-made c = made_so (numbers_of c.args.self.now.day.now.numbers) c.args.self.now.day.now.made
+made c = made_of c.args.self.now.day.now
 
 -- in this turn the node is one of the day's, and the pair is its factor and what it feeds in
 record Turn (c : In-Some) : Type 0 where
@@ -78,7 +78,7 @@ returns c =
     let first : iter_rest (zip_first c.into_iter-factor-iterator.result) ≡ c.factors.result.now = search rules in
     let second : iter_rest (zip_second c.into_iter-factor-iterator.result) ≡ c.args.self.now.fed.now = search rules in
     let e = zip_end _ _ c.loop-factor.yielded c.into_iter-factor-iterator.result c.loop-factor.factor-iterator c.next.new.self _ first second c.loop-factor.yielded_by c.in-None.is c.next.ensures.steps in
-    let made = made_so (numbers_of c.args.self.now.day.now.numbers) c.args.self.now.day.now.made in
+    let made = made_of c.args.self.now.day.now in
     let long = ap length c.factors.ensures ∙ length_part c.args.self.now.day.now.numbers.nodes c.args.line c.args.self.now.day.now.numbers.lines c.args.self.now.day.now.numbers.factors.now c.requires made.lengths.factors in
     let all : length c.loop-factor.yielded ≡ c.args.self.now.day.now.numbers.nodes = omega (arith, e, long, c.args.self.now.long) in
     subst (λ n. c.loop-factor.all.0 ≡ total n (λ k. factor (numbers_of c.args.self.now.day.now.numbers) c.args.line k *ℤ at c.args.self.now.fed.now k)) all c.loop-factor.invariant

@@ -7,7 +7,7 @@ use Rattle.market.specs.Scans.{Within, at}
 use Rattle.market.specs.Meanings.{meaning}
 use Rattle.market.specs.Judging.{plan_of}
 use Rattle.market.proofs.Gathering.{node_is, fed_more, output_small, fed_small, cell_inside}
-use Rattle.market.proofs.Making.{made_so}
+use Rattle.market.proofs.Making.{made_of}
 use Rattle.market.proofs.clearing.judging.Offer.gathered.Given as given
 use Rattle.market.proofs.clearing.judging.Offer.gathered.Goals as goal
 use Rattle.market.proofs.clearing.judging.Offer.gathered.Goals.{In-Ok}
@@ -16,7 +16,7 @@ abbrev m : (g : given.Over) → In-Ok g → Meaning
 m g c = meaning g.F.Fleet c.args.self.now.fleet.now
 
 made : (g : given.Over) (c : In-Ok g) → Made (numbers_of c.args.self.now.day.now.numbers)
-made g c = made_so (numbers_of c.args.self.now.day.now.numbers) c.args.self.now.day.now.made
+made g c = made_of c.args.self.now.day.now
 
 row_in : (g : given.Over) (c : In-Ok g) → c.loop-row.row < g.F.Fleet.size c.args.self.now.fleet.now
 row_in g c = omega (arith, c.loop-row.invariant.2)

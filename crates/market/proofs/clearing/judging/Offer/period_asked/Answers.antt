@@ -10,7 +10,7 @@ use Rattle.market.specs.Injections.{Fed}
 use Rattle.market.specs.Judging.{plan_of}
 use Rattle.market.specs.Meanings.{meaning}
 use Rattle.market.proofs.Gathering.{fed_small}
-use Rattle.market.proofs.Making.{made_so}
+use Rattle.market.proofs.Making.{made_of}
 use Rattle.market.proofs.Periods.{unbalanced, balanced, period_told}
 use Rattle.market.proofs.clearing.judging.Offer.period_asked.Given as given
 use Rattle.market.proofs.clearing.judging.Offer.period_asked.Goals as goal
@@ -26,7 +26,7 @@ abbrev plan : (g : given.Over) → After-gathered-all g → Plan
 plan g c = plan_of c.args.self.now.plan.now
 
 made : (g : given.Over) (c : After-gathered-all g) → Made (numbers g c)
-made g c = made_so (numbers g c) c.args.self.now.day.now.made
+made g c = made_of c.args.self.now.day.now
 
 -- what the day's nodes feed in
 abbrev fed : (g : given.Over) → After-gathered-all g → List ℤ

@@ -1,4 +1,4 @@
-use Rattle.std.proofs.Common.{◌≡◌, ◌+◌, ◌*◌, pos, ◌+ℤ◌, ◌-ℤ◌, ◌*ℤ◌, ap, ◌∙◌, arith}
+use Rattle.std.proofs.Common.{◌≡◌, ℤ, ◌+◌, ◌*◌, pos, ◌+ℤ◌, ◌-ℤ◌, ◌*ℤ◌, ap, ◌∙◌, arith}
 use Rattle.std.proofs.lemmas.Int.{ints}
 use Rattle.market.specs.Bounding.{prices_of, comes}
 use Rattle.market.specs.Clearing.{PriceSet}
@@ -6,7 +6,7 @@ use Rattle.market.specs.Days.{Made, Numbers, numbers_of}
 use Rattle.market.specs.Scans.{at, Within}
 use Rattle.market.specs.Totals.{total}
 use Rattle.market.proofs.FloorParts.{apart, upper_worth, lower_worth, come_small, comes_more}
-use Rattle.market.proofs.Making.{made_so}
+use Rattle.market.proofs.Making.{made_of}
 use Rattle.market.proofs.NetPrices.{cell_below}
 use Rattle.market.proofs.clearing.net_prices.LinePrices.limits_come.Goals as goal
 use Rattle.market.proofs.clearing.net_prices.LinePrices.limits_come.Goals.{In-loop-line, After-measured-in-loop-line, After-measured-in-loop-line-3, After-mul-lower}
@@ -18,7 +18,7 @@ abbrev s : In-loop-line → PriceSet
 s c = prices_of c.args.self.now.prices.now
 
 made : (c : In-loop-line) → Made (d c)
-made c = made_so (d c) c.args.self.now.day.now.made
+made c = made_of c.args.self.now.day.now
 
 pub measured-requires : goal.measured-requires
 measured-requires c =
@@ -30,12 +30,16 @@ measured-requires-in-loop-line-2 c =
     let i = (goal.at.measured-requires-in-loop-line-2 c).In-loop-line in
     cell_below (d i) (s i) (made i) c.args.self.now.priced c.args.period c.loop-line.line _ c.args.self.now.priced.lower_cells c.requires c.loop-line-test.true
 
+-- a limit at its price, as it is worked out and by its cells
+factors : {a b m p l : ℤ} → a ≡ pos 1000 *ℤ m → m ≡ p → b ≡ l → a *ℤ b ≡ (pos 1000 *ℤ p) *ℤ l
+factors e f g = λ j. (e ∙ ap (λ z. pos 1000 *ℤ z) f) j *ℤ g j
+
 -- the two limits, each at its price
 upper_factors : (c : After-measured-in-loop-line) → c.net.result.0 *ℤ c.measured-in-loop-line.result.0 ≡ (pos 1000 *ℤ at c.args.self.now.prices.now.upper.now (c.loop-line.line * c.args.self.now.day.now.numbers.periods + c.args.period)) *ℤ at c.args.self.now.day.now.numbers.upper.now c.loop-line.line
-upper_factors c = let e = c.net.ensures ∙ ap (λ z. pos 1000 *ℤ z) (c.measured.ensures (pos 0)) in λ j. e j *ℤ c.measured-in-loop-line.ensures (pos 0) j
+upper_factors c = factors c.net.ensures (c.measured.ensures (pos 0)) (c.measured-in-loop-line.ensures (pos 0))
 
 lower_factors : (c : After-measured-in-loop-line-3) → c.net-in-loop-line.result.0 *ℤ c.measured-in-loop-line-3.result.0 ≡ (pos 1000 *ℤ at c.args.self.now.prices.now.lower.now (c.loop-line.line * c.args.self.now.day.now.numbers.periods + c.args.period)) *ℤ at c.args.self.now.day.now.numbers.lower.now c.loop-line.line
-lower_factors c = let e = c.net-in-loop-line.ensures ∙ ap (λ z. pos 1000 *ℤ z) (c.measured-in-loop-line-2.ensures (pos 0)) in λ j. e j *ℤ c.measured-in-loop-line-3.ensures (pos 0) j
+lower_factors c = factors c.net-in-loop-line.ensures (c.measured-in-loop-line-2.ensures (pos 0)) (c.measured-in-loop-line-3.ensures (pos 0))
 
 upper_is : (c : After-mul-lower) → c.mul-upper.result.0 ≡ (pos 1000 *ℤ at c.args.self.now.prices.now.upper.now (c.loop-line.line * c.args.self.now.day.now.numbers.periods + c.args.period)) *ℤ at c.args.self.now.day.now.numbers.upper.now c.loop-line.line
 upper_is c = c.mul-upper.ensures ∙ upper_factors (goal.at.sub-requires c).After-measured-in-loop-line

@@ -3,7 +3,7 @@ use Rattle.std.proofs.lemmas.Int.{ints}
 use Rattle.market.specs.Bounding.{prices_of}
 use Rattle.market.specs.Clearing.{PriceSet}
 use Rattle.market.specs.Days.{Made, Numbers, numbers_of}
-use Rattle.market.proofs.Making.{made_so}
+use Rattle.market.proofs.Making.{made_of}
 use Rattle.market.proofs.NetPrices.{line_price, taken, net_before, net_none, net_more, cell_below, share_below, line_price_small, taken_small, net_before_small}
 use Rattle.market.proofs.clearing.net_prices.LinePrices.net_price.Goals as goal
 use Rattle.market.proofs.clearing.net_prices.LinePrices.net_price.Goals.{In-loop-line, After-sub, After-mul}
@@ -15,7 +15,7 @@ abbrev s : In-loop-line → PriceSet
 s c = prices_of c.args.self.now.prices.now
 
 made : (c : In-loop-line) → Made (d c)
-made c = made_so (d c) c.args.self.now.day.now.made
+made c = made_of c.args.self.now.day.now
 
 -- the line's price, and what it takes at the node
 limit_is : (c : After-sub) → c.sub.result.0 ≡ line_price (numbers_of c.args.self.now.day.now.numbers) (prices_of c.args.self.now.prices.now) c.args.period c.loop-line.line

@@ -5,13 +5,13 @@ use Rattle.market.specs.Bounding.{prices_of}
 use Rattle.market.specs.Clearing.{net_price}
 use Rattle.market.specs.Days.{Made, numbers_of}
 use Rattle.market.proofs.Cells.{set_more}
-use Rattle.market.proofs.Making.{made_so}
+use Rattle.market.proofs.Making.{made_of}
 use Rattle.market.proofs.NetPrices.{net_before_small}
 use Rattle.market.proofs.clearing.net_prices.LinePrices.nets.Goals as goal
 use Rattle.market.proofs.clearing.net_prices.LinePrices.nets.Goals.{In-loop-cell}
 
 made : (c : In-loop-cell) → Made (numbers_of c.args.self.day.now.numbers)
-made c = made_so (numbers_of c.args.self.day.now.numbers) c.args.self.day.now.made
+made c = made_of c.args.self.day.now
 
 node_in : (c : In-loop-cell) → c.loop-cell.cell / c.args.self.day.now.numbers.periods < c.args.self.day.now.numbers.nodes
 node_in c = div_below c.loop-cell.cell c.args.self.day.now.numbers.periods c.args.self.day.now.numbers.nodes (made c).shape.periods.0 c.loop-cell-test.true

@@ -7,7 +7,7 @@ use Rattle.market.specs.Days.{Made, Numbers, numbers_of}
 use Rattle.market.specs.Totals.{total}
 use Rattle.market.proofs.Cells.{place_below}
 use Rattle.market.proofs.FloorParts.{load_cell, pays_small, paid_small, net_cell}
-use Rattle.market.proofs.Making.{made_so}
+use Rattle.market.proofs.Making.{made_of}
 use Rattle.market.proofs.Totals.{total_more}
 use Rattle.market.proofs.clearing.net_prices.Nets.loads_pay.Goals as goal
 use Rattle.market.proofs.clearing.net_prices.Nets.loads_pay.Goals.{In-loop-node, After-mul}
@@ -19,7 +19,7 @@ abbrev s : In-loop-node → PriceSet
 s c = prices_of c.args.self.now.lines.prices.now
 
 made : (c : In-loop-node) → Made (d c)
-made c = made_so (d c) c.args.self.now.lines.day.now.made
+made c = made_of c.args.self.now.lines.day.now
 
 pub measured-net-requires : goal.measured-net-requires
 measured-net-requires c =

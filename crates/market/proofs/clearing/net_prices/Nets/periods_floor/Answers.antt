@@ -4,7 +4,7 @@ use Rattle.market.specs.Bounding.{prices_of, PeriodsFloored}
 use Rattle.market.specs.Clearing.{PriceSet}
 use Rattle.market.specs.Days.{Made, Numbers, numbers_of}
 use Rattle.market.proofs.FloorParts.{paid_small, come_small, periods_none, periods_more}
-use Rattle.market.proofs.Making.{made_so}
+use Rattle.market.proofs.Making.{made_of}
 use Rattle.market.proofs.clearing.net_prices.Nets.periods_floor.Goals as goal
 use Rattle.market.proofs.clearing.net_prices.Nets.periods_floor.Goals.{In-loop-period, After-sub}
 
@@ -15,7 +15,7 @@ abbrev s : In-loop-period → PriceSet
 s c = prices_of c.args.self.now.lines.prices.now
 
 made : (c : In-loop-period) → Made (d c)
-made c = made_so (d c) c.args.self.now.lines.day.now.made
+made c = made_of c.args.self.now.lines.day.now
 
 pub loop-period-init : goal.loop-period-init
 loop-period-init c = periods_none _ _

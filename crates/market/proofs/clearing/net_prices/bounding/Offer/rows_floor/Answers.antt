@@ -8,7 +8,7 @@ use Rattle.market.specs.Fleet.{Meaning}
 use Rattle.market.specs.Meanings.{meaning}
 use Rattle.market.proofs.FloorParts.{rows_none, rows_more, floor_told, not_ok}
 use Rattle.market.proofs.Gathering.{node_is}
-use Rattle.market.proofs.Making.{made_so}
+use Rattle.market.proofs.Making.{made_of}
 use Rattle.market.proofs.RowsCost.{part_ends}
 use Rattle.market.proofs.clearing.net_prices.bounding.Offer.rows_floor.Given as given
 use Rattle.market.proofs.clearing.net_prices.bounding.Offer.rows_floor.Goals as goal
@@ -24,7 +24,7 @@ abbrev s : (g : given.Over) → In-Ok g → PriceSet
 s g c = prices_of c.args.self.now.prices.now
 
 made : (g : given.Over) (c : In-Ok g) → Made (d g c)
-made g c = made_so (d g c) c.args.self.now.day.now.made
+made g c = made_of c.args.self.now.day.now
 
 row_in : (g : given.Over) (c : In-Ok g) → c.loop-row.row < g.F.Fleet.size c.args.self.now.fleet.now
 row_in g c = omega (arith, c.loop-row.invariant.1)
