@@ -22,6 +22,11 @@ fields_left (Some row) = pieces 59 row.now
 abbrev pub fields_ahead : Fields → List (List ℕ)
 fields_ahead fs = fields_left fs.rest
 
+-- the next field, or none is left
+abbrev pub GivesField : Fields → Option (Bor (List ℕ)) → Fields → Type 0
+GivesField before None after = (fields_ahead before ≡ []) × (fields_ahead after ≡ [])
+GivesField before (Some field) after = fields_ahead before ≡ field.now ∷ fields_ahead after
+
 -- only the position moved
 pub record Kept (before after : Reader) : Type 0 where
   pub file : after.file.now ≡ before.file.now

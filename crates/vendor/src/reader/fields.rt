@@ -1,9 +1,10 @@
 // The fields of a row, which stand between semicolons.
 ghost use Rattle.std.specs.Prelude.{◌≡◌, ℕ, ◌<◌, [], ◌∷◌, ◌++◌, length, Some, MatchOption, MatchResult, ◌≢◌, slice_index};
+ghost use Rattle.std.specs.Iterator.{item_count};
 ghost use Rattle.vendor.specs.Pieces.{pieces};
 ghost use Rattle.vendor.specs.declared.faults.RowFault.TheVariants.{FieldCount};
 ghost use Rattle.vendor.specs.Rows.{fields_of, first_no};
-ghost use Rattle.vendor.specs.Walks.{fields_ahead, letter_questions};
+ghost use Rattle.vendor.specs.Walks.{fields_ahead, GivesField, letter_questions};
 
 use crate::faults::RowFault;
 use crate::rows::Row;
@@ -23,12 +24,15 @@ struct Fields<'a> {
     rest: Option<&'a [u8]>,
 }
 
-impl<'a> Fields<'a> {
-    // The next field, or `None` past the last.
+impl<'a> Iterator for Fields<'a> {
+    type Item = &'a [u8];
+
+    ghost next_gives = { GivesField };
+
+    ghost remaining = { item_count fields_ahead };
+
     #[tactic(auto, using(crate::proofs::Cuts::last_left, crate::proofs::Cuts::next_left))]
-    fn next(&mut self) -> Option<&'a [u8]>
-        ensures { MatchOption result (fields_ahead self.old ≡ []) (λ f. fields_ahead self.old ≡ f.now ∷ fields_ahead self.new) }
-    {
+    fn next(&mut self) -> Option<&'a [u8]> {
         let row = self.rest.take()?;
         let Some(n) = find(row, SEMICOLON) else {
             return Some(row);
@@ -36,7 +40,9 @@ impl<'a> Fields<'a> {
         self.rest = Some(&row[n + 1..]);
         Some(&row[..n])
     }
+}
 
+impl<'a> Fields<'a> {
     // The next field, or the fault of a row that has none left.
     fn field(&mut self) -> Result<&'a [u8], RowFault>
         ensures { MatchResult result (λ f. fields_ahead self.old ≡ f.now ∷ fields_ahead self.new) (λ e. (fields_ahead self.old ≡ []) × (e ≡ FieldCount)) }
