@@ -12,7 +12,11 @@ const LINES: usize = 16;
 const SIZE: usize = 32;
 
 // A cell for each row and period, for each line and period, and for each period.
-type DayCells = Cells<3072, 1536, PERIODS>;
+const ROW_CELLS: usize = SIZE * PERIODS;
+
+const LINE_CELLS: usize = LINES * PERIODS;
+
+type DayCells = Cells<ROW_CELLS, LINE_CELLS, PERIODS>;
 
 const READINGS: u32 = 200;
 

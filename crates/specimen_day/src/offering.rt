@@ -21,7 +21,11 @@ pub const MOST_BYTES: usize = 65_536;
 const SIZE: usize = 3;
 
 // A cell for each row and period, for each line and period, and for each period.
-type DayCells = Cells<6, 2, PERIODS>;
+const ROW_CELLS: usize = SIZE * PERIODS;
+
+const LINE_CELLS: usize = LINES * PERIODS;
+
+type DayCells = Cells<ROW_CELLS, LINE_CELLS, PERIODS>;
 
 // The plan judged, and the prices bounded.
 fn offered(plan: &Plan, prices: &PriceSet) -> Answers

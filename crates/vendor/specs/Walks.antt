@@ -1,8 +1,10 @@
 -- What a reader has still before it. Assumes nothing.
-use Rattle.std.specs.Prelude.{◌≡◌, ℕ, ◌+◌, ◌-◌, ◌<◌, ◌≤◌, Bool, cond, List, [], ◌∷◌, length, take, drop, is_some, Some, None, Ok, Err, Option, Result, ◌==◌, nat_le}
+use Rattle.std.specs.Prelude.{◌≡◌, ℕ, Bool, List, [], ◌∷◌, length, drop, is_some, Some, None, Ok, Err, Option, Result, ◌==◌}
+use Rattle.std.specs.Borrow.{Bor}
 use Rattle.vendor.specs.declared.faults.RowFault.{RowFault}
 use Rattle.vendor.specs.declared.faults.RowFault.TheVariants.{UnknownLetter, FieldCount}
 use Rattle.vendor.specs.declared.reader.Reader.{Reader}
+use Rattle.vendor.specs.declared.reader.fields.Fields.{Fields}
 use Rattle.std.specs.List.{AllByRecursion, join_with_byte}
 use Rattle.vendor.specs.Pieces.{pieces, Lacks}
 use Rattle.vendor.specs.declared.rows.Row.{Row}
@@ -12,16 +14,18 @@ use Rattle.vendor.specs.declared.rows.Last.{Last}
 use Rattle.vendor.specs.declared.rows.Entry.{Entry}
 use Rattle.vendor.specs.Rows.{Line, row_fault, entry_of, place_of, group, width, fields, fields_of, first_no, unless_no, cut_questions}
 
--- the fields of a row that ends at `end`, from `at` on: none past its end
-unfoldable pub fields_left : List ℕ → ℕ → ℕ → List (List ℕ)
-fields_left file at end = cond (nat_le at end) (pieces 59 (take (end - at) (drop at file))) []
+-- what is left of a row, cut at its semicolons (byte 59)
+abbrev pub fields_left : Option (Bor (List ℕ)) → List (List ℕ)
+fields_left None = []
+fields_left (Some row) = pieces 59 row.now
 
-abbrev pub fields_ahead : Reader → ℕ → List (List ℕ)
-fields_ahead r end = fields_left r.file.now r.at end
+abbrev pub fields_ahead : Fields → List (List ℕ)
+fields_ahead fs = fields_left fs.rest
 
--- inside the row that ends at `end`: at one of its fields, or just past its end
-abbrev pub InRow : Reader → ℕ → Type 0
-InRow r end = (r.at ≤ end + 1) × (end < length r.file.now)
+-- the next field, or none is left
+abbrev pub GivesField : Fields → Option (Bor (List ℕ)) → Fields → Type 0
+GivesField before None after = (fields_ahead before ≡ []) × (fields_ahead after ≡ [])
+GivesField before (Some field) after = fields_ahead before ≡ field.now ∷ fields_ahead after
 
 -- only the position moved
 pub record Kept (before after : Reader) : Type 0 where

@@ -51,6 +51,7 @@ impl RowFault {
     }
 }
 
+// Numbers are told as solvers read them: 0 where there is none.
 impl FileFault {
     // The number that the fault is printed with.
     pub fn number(&self) -> u8

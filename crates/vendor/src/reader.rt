@@ -1,12 +1,13 @@
 // A walk over a file that stays where it is: row by row, and in a row field by field.
 mod entries;
+mod fields;
 mod walk;
 
 ghost use Rattle.std.specs.Prelude.{◌≤◌, length};
 
 use crate::rows::Last;
 
-// `at` is where the next row begins, and inside a row where the next field does; `last` is the last row read, if any was.
+// `at` is where the next row begins; `last` is the last row read, if any was.
 #[derive(Drop)]
 pub struct Reader<'a> {
     file: &'a [u8],

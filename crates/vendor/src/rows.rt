@@ -41,7 +41,7 @@ pub enum Row<'a> {
 }
 
 // The same with its numbers read; a row, a line and a period lie in the shape that it was read for.
-// An enum of its own, since one over any fields would take four type parameters for them and is no plainer.
+// An enum of its own, since one over any fields would take three type parameters, and every contract on fields would speak of them.
 #[derive(Clone, Copy, PartialEq, Eq, Debug)]
 pub enum Entry {
     Output {
@@ -105,7 +105,7 @@ fn natural<const FIRST: usize>(text: &[u8], field: usize, count: usize) -> Resul
 }
 
 impl Row<'_> {
-    // The numbers of the row, or the fault of its first faulty field.
+    // The numbers of the row, or the fault of its first faulty field. `as` is exact below 256; `try_from` would have a case that never comes.
     pub fn numbers(&self, shape: &Shape) -> Result<Entry, FieldFault>
         ensures { result ≡ numbers_answer shape.now (fields_of self.now) }
     {

@@ -10,8 +10,8 @@ use crate::rows::{Entry, Shape};
 pub use cells::Cells;
 pub use reading::read;
 
-// A struct of seven slices by a rule of the project. Cells lie item by item and then by period: rows by periods for marks, outputs, rise and fall prices,
-// lines by periods for upper and lower prices, and one system price for each period.
+// A struct of seven slices by a rule of the project. Cells lie item by item and then by period: rows by periods for marks, outputs, rise and fall
+// prices, lines by periods for upper and lower prices, and one system price for each period.
 #[derive(Drop)]
 pub struct Tables<'a> {
     pub marks: &'a mut [u8],
