@@ -5,15 +5,15 @@ use Rattle.market.specs.Scans.{UpTo}
 use Rattle.kinds.specs.Curves.{below, end}
 use Rattle.kinds.proofs.Fitting.{same_32}
 use Rattle.kinds.proofs.CurveTests.{made_so}
-use Rattle.kinds.proofs.curve.Curve.below.Goals as goal
-use Rattle.kinds.proofs.curve.Curve.below.Goals.{After-clamp}
+use Rattle.kinds.proofs.curve.costs.Segment.below.Goals as goal
+use Rattle.kinds.proofs.curve.costs.Segment.below.Goals.{After-clamp}
 
 pub clamp-requires : goal.clamp-requires
 clamp-requires c =
-    let m = made_so c.args.self.now.numbers c.args.self.now.made in
-    let up = m.rises.ends c.args.segment c.requires in
-    let from = m.ranges.ends c.args.segment (omega arith) in
-    let to = m.ranges.ends (c.args.segment + 1) (omega arith) in
+    let m = made_so c.args.self.now.curve.now.numbers c.args.self.now.curve.now.made in
+    let up = m.rises.ends c.args.self.now.number c.args.self.now.within in
+    let from = m.ranges.ends c.args.self.now.number (omega arith) in
+    let to = m.ranges.ends (c.args.self.now.number + 1) (omega arith) in
     omega (arith, ints)
 
 -- an output taken into a segment, and the part that lies below it
@@ -33,12 +33,12 @@ part from to p x f t up fits e =
         let value : x -ℤ from ≡ int_max (pos 0) (int_min p to -ℤ from) = omega (arith, ints, clamps) in
         kept x low high value
 
-told : (c : After-clamp) → SFits w32 (to_z w32 (of_z w32 c.clamp.result) -ℤ to_z w32 (of_z w32 (end c.args.self.now.numbers c.args.segment))) × (to_z w32 (of_z w32 (to_z w32 (of_z w32 c.clamp.result) -ℤ to_z w32 (of_z w32 (end c.args.self.now.numbers c.args.segment)))) ≡ int_max (pos 0) (int_min c.args.output.0 (end c.args.self.now.numbers (c.args.segment + 1)) -ℤ end c.args.self.now.numbers c.args.segment))
+told : (c : After-clamp) → SFits w32 (to_z w32 (of_z w32 c.clamp.result) -ℤ to_z w32 (of_z w32 (end c.args.self.now.curve.now.numbers c.args.self.now.number))) × (to_z w32 (of_z w32 (to_z w32 (of_z w32 c.clamp.result) -ℤ to_z w32 (of_z w32 (end c.args.self.now.curve.now.numbers c.args.self.now.number)))) ≡ int_max (pos 0) (int_min c.args.output.0 (end c.args.self.now.curve.now.numbers (c.args.self.now.number + 1)) -ℤ end c.args.self.now.curve.now.numbers c.args.self.now.number))
 told c =
-    let m = made_so c.args.self.now.numbers c.args.self.now.made in
-    let up = m.rises.ends c.args.segment c.requires in
+    let m = made_so c.args.self.now.curve.now.numbers c.args.self.now.curve.now.made in
+    let up = m.rises.ends c.args.self.now.number c.args.self.now.within in
     let fits : SFits w32 c.args.output.0 = search rules in
-    part _ _ _ _ (m.ranges.ends c.args.segment (omega arith)) (m.ranges.ends (c.args.segment + 1) (omega arith)) (omega (arith, ints)) fits c.clamp.ensures.value
+    part _ _ _ _ (m.ranges.ends c.args.self.now.number (omega arith)) (m.ranges.ends (c.args.self.now.number + 1) (omega arith)) (omega (arith, ints)) fits c.clamp.ensures.value
 
 pub overflow_sub-result : goal.overflow_sub-result
 overflow_sub-result c = (told c).0
