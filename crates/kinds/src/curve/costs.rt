@@ -96,6 +96,7 @@ impl Curve {
     }
 
     // What running at an output costs in a period, for every output: what lies outside the curve counts for nothing.
+    // Thin over a private function, so that an edit that must fail is refused for the fact and not for its answers' file.
     pub fn running_cost(&self, output: Tenths) -> Grains
         ensures { result.0 ≡ running_cost self.now.numbers output.0 }
     {
