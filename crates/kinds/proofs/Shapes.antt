@@ -1,7 +1,6 @@
--- The first two questions of a table, by tests and by what they mean, and where a row stands in it. Assumes nothing.
-use Rattle.std.proofs.Common.{◌≡◌, ℕ, ◌+◌, ◌-◌, ◌*◌, ◌≤◌, Bool, true, false, ◌&&◌, eqb, leb, List, take, drop, Decides, Result, sym, refl, ap, subst, arith, MatchResult}
+-- The first two questions of a table, by tests and by what they mean. Assumes nothing.
+use Rattle.std.proofs.Common.{◌≡◌, ℕ, ◌*◌, ◌≤◌, Bool, true, false, ◌&&◌, eqb, leb, Decides, Result, sym, refl, subst, MatchResult}
 use Rattle.std.proofs.lemmas.Bool.{and_parts, and_from, both_ways, leb-true, le-leb, eqb-true, eq-eqb}
-use Rattle.market.specs.Clearing.{part}
 use Rattle.kinds.specs.declared.table_fault.TableFault.{TableFault}
 use Rattle.kinds.specs.declared.table_fault.TableFault.TheVariants.{Periods, Sizes}
 use Rattle.kinds.specs.Tables as Tables
@@ -52,10 +51,3 @@ module _ (periods rows : ℕ) where
   -- what the computation tells
   pub rows_so : (o : Result (Unit {0}) TableFault) → o ≡ rows_told periods rows → MatchResult o (λ _. PeriodsFit periods × (rows ≤ 32)) (Crowded periods rows)
   rows_so o e = subst (λ x. MatchResult x (λ _. PeriodsFit periods × (rows ≤ 32)) (Crowded periods rows)) (sym e) (few_by _ _ refl refl)
-
--- a row's part of a table, by where it begins and ends
-pub part_is : {A : Type 0} (n row : ℕ) (xs : List A) → take (row * n + n - row * n) (drop (row * n) xs) ≡ part n row xs
-part_is n row xs = ap (λ k. take k (drop (row * n) xs)) (span row n)
-  where
-    span : (row n : ℕ) → row * n + n - row * n ≡ n
-    span row n = omega arith
