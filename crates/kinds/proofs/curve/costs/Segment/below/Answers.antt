@@ -2,8 +2,8 @@ use Rattle.std.proofs.Common.{◌≡◌, ◌+◌, ℤ, pos, ◌-ℤ◌, ◌≤�
 use Rattle.std.specs.Int.{int_min, int_max}
 use Rattle.std.proofs.lemmas.Int.{ints, clamps, to_z-of_z}
 use Rattle.market.specs.Scans.{UpTo}
+use Rattle.market.proofs.Ints.{reread}
 use Rattle.kinds.specs.Curves.{below, end}
-use Rattle.kinds.proofs.Fitting.{same_32}
 use Rattle.kinds.proofs.CurveTests.{made_so}
 use Rattle.kinds.proofs.curve.costs.Segment.below.Goals as goal
 use Rattle.kinds.proofs.curve.costs.Segment.below.Goals.{After-clamp}
@@ -20,7 +20,7 @@ clamp-requires c =
 part : (from to p x : ℤ) → UpTo 20000 from → UpTo 20000 to → from ≤ℤ to → SFits w32 p → x ≡ int_max (to_z w32 (of_z w32 from)) (int_min (to_z w32 (of_z w32 p)) (to_z w32 (of_z w32 to)))
     → SFits w32 (to_z w32 (of_z w32 x) -ℤ to_z w32 (of_z w32 from)) × (to_z w32 (of_z w32 (to_z w32 (of_z w32 x) -ℤ to_z w32 (of_z w32 from))) ≡ int_max (pos 0) (int_min p to -ℤ from))
 part from to p x f t up fits e =
-    let same : x ≡ int_max from (int_min p to) = e ∙ (λ j. int_max (same_32 from (omega (arith, ints), omega (arith, ints)) j) (int_min (to_z-of_z w32 p fits j) (same_32 to (omega (arith, ints), omega (arith, ints)) j))) in
+    let same : x ≡ int_max from (int_min p to) = e ∙ (λ j. int_max (reread 2000000000 from (omega arith) (omega (arith, ints), omega (arith, ints)) j) (int_min (to_z-of_z w32 p fits j) (reread 2000000000 to (omega arith) (omega (arith, ints), omega (arith, ints)) j))) in
     plain x same
   where
     kept : (x : ℤ) → from ≤ℤ x → x ≤ℤ to → {y : ℤ} → x -ℤ from ≡ y → SFits w32 (to_z w32 (of_z w32 x) -ℤ to_z w32 (of_z w32 from)) × (to_z w32 (of_z w32 (to_z w32 (of_z w32 x) -ℤ to_z w32 (of_z w32 from))) ≡ y)
