@@ -1,17 +1,18 @@
 -- The first two questions of a table, by tests and by what they mean. Assumes nothing.
 use Rattle.std.proofs.Common.{◌≡◌, ℕ, ◌*◌, ◌≤◌, Bool, true, false, ◌&&◌, eqb, leb, Decides, Result, sym, refl, subst, MatchResult}
 use Rattle.std.proofs.lemmas.Bool.{and_parts, and_from, both_ways, leb-true, le-leb, eqb-true, eq-eqb}
+use Rattle.std.proofs.lemmas.Bool.Decides.{Decides-and}
 use Rattle.kinds.specs.declared.table_fault.TableFault.{TableFault}
 use Rattle.kinds.specs.declared.table_fault.TableFault.TheVariants.{Periods, Sizes}
 use Rattle.kinds.specs.Tables as Tables
 use Rattle.kinds.specs.Tables.{PeriodsFit, LengthsFit, Shaped, Unshaped, shape_test, first_told, shape_told, rows_told}
 
+pub decides_from_to : (low high n : ℕ) → Decides (leb low n && leb n high) ((low ≤ n) × (n ≤ high))
+decides_from_to low high n = Decides-and (leb low n) (leb n high) (leb-true low n, le-leb low n) (leb-true n high, le-leb n high)
+
 module _ (periods rows cells : ℕ) where
   decides_periods : Decides (leb 1 periods && leb periods 96) (PeriodsFit periods)
-  decides_periods = (
-    λ e. let p = and_parts (leb 1 periods) (leb periods 96) e in (leb-true _ _ p.0, leb-true _ _ p.1),
-    λ h. and_from (leb 1 periods) (leb periods 96) (le-leb _ _ h.0) (le-leb _ _ h.1),
-  )
+  decides_periods = decides_from_to 1 96 periods
 
   decides_lengths : Decides (leb rows 32 && eqb cells (rows * periods)) (LengthsFit periods rows cells)
   decides_lengths = (
