@@ -103,7 +103,7 @@ impl Curve {
         self.cost_below(output)
     }
 
-    // Whether the least can be asked for.
+    // Whether the least can be asked for. In brackets as its contract has them: without, the search finds no proof.
     fn asked(&self, value: NetPrice, low: Tenths, high: Tenths) -> bool
         ensures { result ≡ asked_test self.now.numbers value.0 low.0 high.0 }
     {
