@@ -15,7 +15,7 @@ pub struct Joined<A, B> {
     pub second: B,
 }
 
-// The fleet that a row is of, and the row as that fleet counts it.
+// The fleet that a row is of, and the row as that fleet counts it. Neither side is a refusal, so this is no Result.
 enum Side {
     First(usize),
     Second(usize),

@@ -16,7 +16,7 @@ pub(crate) trait AlwaysRuns {
 
     ghost cost: { Self → ℤ → ℤ };
 
-    // Whether the row may have the output in a period.
+    // Whether the row may have the output in a period. A period goes by its number: what a row has for each differs from kind to kind.
     fn allows(&self, period: usize, output: Tenths) -> bool
         requires { period < periods self.now }
         ensures { result ≡ allows self.now period output.0 };
@@ -44,7 +44,8 @@ fn rule<R: AlwaysRuns>(row: &R, period: usize, mark: u8, output: Tenths) -> Resu
     Ok(())
 }
 
-// The verdict on a row's schedule, period by period: a lawful one costs what its outputs cost.
+// The verdict on a row's schedule, period by period: a lawful one costs what its outputs cost. The schedule's two lengths are asked for here and
+// by each table's own verdict: a struct that knew them would have to hold the table and the row as well, so one for each kind, and no plainer.
 pub(crate) fn judged<R: AlwaysRuns>(row: &R, schedule: &Schedule) -> Result<Grains, Broken>
     requires marks { length schedule.now.marks.now ≡ R.periods row.now }
     requires outputs { length schedule.now.outputs.now ≡ R.periods row.now }

@@ -1,5 +1,6 @@
-// The first two questions of a table of rows: its periods, and its lengths.
-ghost use Rattle.std.specs.Prelude.{◌≡◌};
+// The first two questions of a table of rows: its periods, and its lengths; and a row's part of such a table.
+ghost use Rattle.std.specs.Prelude.{◌≡◌, ◌+◌, ◌*◌, ◌≤◌, length};
+ghost use Rattle.market.specs.Clearing.{part};
 ghost use Rattle.kinds.specs.Tables.{shape_told};
 
 use kinds::{TableFault, rows_fit};
@@ -14,4 +15,13 @@ pub(crate) fn shape_fits(periods: usize, rows: usize, cells: usize) -> Result<()
     } else {
         Err(TableFault::Sizes)
     }
+}
+
+// A row's part of a table that has a cell for each row and period, row by row.
+pub(crate) fn part<T>(table: &[T], row: usize, periods: usize) -> &[T]
+    requires { row * periods + periods ≤ length table.now }
+    ensures { result.now ≡ part periods row table.now }
+{
+    let start = row * periods;
+    &table[start..start + periods]
 }

@@ -1,20 +1,25 @@
--- What is known of a row and its prices once a fleet has asked of them. Assumes nothing.
-use Rattle.std.proofs.Common.{◌≡◌, ℕ, ◌<◌, Bool, true, false, cond, eqb, ltb, length, Some, None, Ok, Err, Option, Result, sym, refl, ap, ◌∙◌, arith}
+-- What is known of a row with its schedule or its prices once a fleet has asked of them. Assumes nothing.
+use Rattle.std.proofs.Common.{◌≡◌, ℕ, ◌<◌, Bool, true, false, cond, eqb, ltb, length, Some, None, Ok, Err, Option, sym, refl, ap, ◌∙◌}
 use Rattle.std.proofs.lemmas.Bool.{and_parts, ltb-true, eqb-true}
 use Rattle.measures.specs.Amounts.{grains}
 use Rattle.measures.specs.declared.Grains.{Grains}
 use Rattle.market.specs.declared.broken.Broken.{Broken}
-use Rattle.market.specs.Fleet.{Meaning, RowPrices, Priced, broken, unless, row_fault, prices_listed, prices_asked, floor_answer}
+use Rattle.market.specs.Fleet.{Meaning, Schedule, RowPrices, Priced, broken, unless, row_fault, asked, schedule_listed, prices_listed, prices_asked, floor_answer}
 use Rattle.market.proofs.Pricing.{Listed, priced_so}
-
-refused : (u : Unit {0}) (e : Broken) → ◌≡◌ {A = Result (Unit {0}) Broken} (Ok u) (Err e) → ⊥
-refused u e h = let z : ◌≡◌ {A = ℕ} 0 1 = cc in omega arith
+use Rattle.kinds.proofs.Telling.{two}
 
 -- a yes to both questions
 yes : (b : Bool) (fault : Option Broken) (u : Unit {0}) (e : Broken) → Ok u ≡ cond b (unless fault tt) (Err e) → (b ≡ true) × (fault ≡ None)
 yes true None u e h = (refl, refl)
-yes true (Some f) u e h = absurd (refused u f h)
-yes false fault u e h = absurd (refused u e h)
+yes true (Some f) u e h = absurd (two u f (Ok u) refl h)
+yes false fault u e h = absurd (two u e (Ok u) refl h)
+
+-- row r is one of n, and its schedule has a mark and an output for each of t periods
+pub asked_schedule : (r n t : ℕ) (s : Schedule) (u : Unit {0}) → Ok u ≡ asked (schedule_listed r n t s) → (r < n) × (length s.marks ≡ t) × (length s.outputs ≡ t)
+asked_schedule r n t s u e =
+    let a = and_parts (ltb r n) _ (yes (schedule_listed r n t s) None u (broken 8 0) e).0 in
+    let b = and_parts (eqb (length s.marks) t) _ a.1 in
+    (ltb-true _ _ a.0, eqb-true _ _ b.0, eqb-true _ _ b.1)
 
 module _ (m : Meaning) (r : ℕ) (q : RowPrices) (u : Unit {0}) (asked : Ok u ≡ prices_asked r m.size m.periods q) where
   pub asked_row : r < m.size

@@ -3,7 +3,7 @@ use Rattle.std.proofs.Common.{◌≡◌, ℕ, ◌+◌, ◌-◌, ◌<◌, ◌≤�
 use lib.Signed.{le_z, lt_z}
 use Rattle.std.proofs.lemmas.List.{get_or-take, length-take}
 use Rattle.std.proofs.lemmas.Int.{ints}
-use Rattle.std.proofs.lemmas.Bool.{and_parts, and_from, both_ways, leb-true, le-leb}
+use Rattle.std.proofs.lemmas.Bool.{and_parts, and_from, both_ways}
 use Rattle.std.proofs.lemmas.Bool.Decides.{Decides-below_and}
 use Rattle.std.specs.List.{AllAdjacentBelow, IsAllAdjacentAnswer}
 use Rattle.market.specs.Scans.{at, In, Within, InBefore, FirstOut, in_test, all_below}
@@ -11,6 +11,7 @@ use Rattle.market.proofs.Scanning.{decides_in, decides_le}
 use Rattle.kinds.specs.declared.curve_numbers.CurveNumbers.{CurveNumbers}
 use Rattle.kinds.specs.Tables.{CurvesFit}
 use Rattle.kinds.specs.Curves.{end, price, CountFits, RangesFit, Rises, Made, Fits, made_test, lowest, highest, asked_test}
+use Rattle.kinds.proofs.Shapes.{decides_from_to}
 
 -- the front of a table, told by the cells of the table
 pub front_in : (low high : ℤ) (n : ℕ) (xs : List ℤ) → n ≤ length xs → InBefore low high (take n xs) (length (take n xs)) → (i : ℕ) → i < n → In low high (at xs i)
@@ -38,7 +39,7 @@ decides_lt a b = (λ e. grind (arith, ints), λ h. grind (arith, ints))
 
 module _ (c : CurveNumbers) where
   decides_count : Decides (leb 1 c.segments && leb c.segments 10) (CountFits c)
-  decides_count = (λ e. let p = and_parts (leb 1 c.segments) _ e in (leb-true _ _ p.0, leb-true _ _ p.1), λ h. and_from _ _ (le-leb _ _ h.0) (le-leb _ _ h.1))
+  decides_count = decides_from_to 1 10 c.segments
 
   decides_ends : Decides (all_below (λ i. in_test (pos 0) (pos 20000) (end c i)) (c.segments + 1)) ((i : ℕ) → i < c.segments + 1 → In (pos 0) (pos 20000) (end c i))
   decides_ends = Decides-below_and (λ i. in_test (pos 0) (pos 20000) (end c i)) _ (all_below (λ i. in_test (pos 0) (pos 20000) (end c i))) (λ i. decides_in (pos 0) (pos 20000) (end c i)) refl (λ n. refl) (c.segments + 1)

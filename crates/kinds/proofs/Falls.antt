@@ -1,5 +1,5 @@
 -- The least of running cost less worth is reached segment by segment. Assumes nothing.
-use Rattle.std.proofs.Common.{◌≡◌, ℕ, zero, suc, ◌+◌, ◌*◌, ◌<◌, ◌≤◌, ℤ, pos, ◌+ℤ◌, ◌-ℤ◌, ◌*ℤ◌, ◌≤ℤ◌, ◌<ℤ◌, sym, ap, ◌∙◌, subst, inl, inr, arith}
+use Rattle.std.proofs.Common.{◌≡◌, ℕ, zero, suc, ◌+◌, ◌*◌, ◌<◌, ◌≤◌, ℤ, pos, ◌+ℤ◌, ◌-ℤ◌, ◌*ℤ◌, ◌≤ℤ◌, ◌<ℤ◌, sym, refl, ap, ◌∙◌, subst, inl, inr, arith}
 use lib.IntN.{*ℤ_comm, *ℤ-zero}
 use Rattle.std.specs.Int.{int_min, int_max}
 use Rattle.std.proofs.lemmas.Int.{ints, clamps, by_lt_z}
@@ -11,7 +11,7 @@ use Rattle.market.proofs.Totals.{total_cong, total_mono, total_more, total_withi
 use Rattle.kinds.specs.declared.curve_numbers.CurveNumbers.{CurveNumbers}
 use Rattle.kinds.specs.Curves.{end, price, lowest, highest, Made, below, net_cost, fall}
 use Rattle.kinds.specs.Leasts.{Least, least_over}
-use Rattle.kinds.proofs.Leasts.{least_over_least, least_same}
+use Rattle.kinds.proofs.Leasts.{least_over_least, least_same, add_le}
 use Rattle.kinds.proofs.Segments.{ends_up, prices_up, below_grows, below_small, net_within, running_cost_within, net_cost_from, slope}
 
 -- ---- products and their signs
@@ -100,11 +100,8 @@ module _ (c : CurveNumbers) (made : Made c) (v low high : ℤ) (on : lowest c �
       let g = below_grows c made i p high l k in
       fall_le (slope c made v i) (below c i p -ℤ below c i low) (below c i high -ℤ below c i low) (grown i p l h) (omega (arith, ints))
 
-  add_le : (a x y : ℤ) → x ≤ℤ y → (a +ℤ x) ≤ℤ (a +ℤ y)
-  add_le a x y h = omega (arith, ints)
-
   lowered_under : (p : ℤ) → low ≤ℤ p → p ≤ℤ high → lowered c v low high ≤ℤ net_cost c v p
-  lowered_under p h k = subst (λ x. lowered c v low high ≤ℤ x) (sym (from_low p h k)) (add_le (net_cost c v low) _ _ (total_mono n (fall c v low high) (step p) (fall_under p h k)))
+  lowered_under p h k = subst (λ x. lowered c v low high ≤ℤ x) (sym (from_low p h k)) (add_le (net_cost c v low) _ _ _ (total_mono n (fall c v low high) (step p) (fall_under p h k)) refl)
 
   module _ (j : ℕ) (t : Turn (slope c made v) n j) where
     abbrev best : ℤ

@@ -1,13 +1,9 @@
--- Numbers that fit their cells: to bits and back, they are the same; and the smaller of two amounts. Assumes nothing.
-use Rattle.std.proofs.Common.{◌≡◌, Bool, true, false, cond, ℤ, refl, ap, ◌∙◌, arith, w32, to_z, of_z}
+-- The smaller of two amounts. Assumes nothing.
+use Rattle.std.proofs.Common.{◌≡◌, Bool, true, false, cond, ℤ, refl, ap, ◌∙◌, arith}
 use Rattle.std.specs.Int.{int_min}
 use Rattle.std.specs.Ordering.{ord_min, int_cmp}
 use Rattle.std.proofs.lemmas.Int.{ints}
 use Rattle.measures.specs.declared.Grains.{Grains}
-use Rattle.market.specs.Scans.{Within}
-
-pub same_32 : (x : ℤ) → Within 2000000000 x → to_z w32 (of_z w32 x) ≡ x
-same_32 x h = omega (arith, ints)
 
 chosen : (b : Bool) (x y : Grains) → (cond b x y).0 ≡ cond b x.0 y.0
 chosen true x y = refl

@@ -9,6 +9,9 @@ use Rattle.kinds.specs.Leasts.{Least, least_up_to, least_over}
 pub min_cases : (a b : ℤ) → (int_min a b ≡ a) ⊎ (int_min a b ≡ b)
 min_cases a b = elim (lt_z b a) as (λ t. (cond t b a ≡ a) ⊎ (cond t b a ≡ b)) [ true ↦ inr refl | false ↦ inl refl ]
 
+pub add_le : (a x y z : ℤ) → x ≤ℤ y → z ≡ a +ℤ y → (a +ℤ x) ≤ℤ z
+add_le a x y z h e = omega (arith, ints)
+
 up_to_le : (n k : ℕ) (f : ℕ → ℤ) → k ≤ n → least_up_to n f ≤ℤ f k
 up_to_le zero k f h = let e : f 0 ≡ f k = ap f (omega arith) in omega (arith, ints)
 up_to_le (suc n) k f h =

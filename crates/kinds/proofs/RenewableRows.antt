@@ -21,6 +21,7 @@ use Rattle.kinds.proofs.Falls.{net_cost_within}
 use Rattle.kinds.proofs.Leasts.{least_over_least}
 use Rattle.kinds.proofs.Running.{both_kept, which_broken, unreserved}
 use Rattle.kinds.proofs.Segments.{running_cost_within}
+use Rattle.kinds.proofs.Units.{wider}
 use Rattle.kinds.proofs.Verdicts.{verdict_tells}
 
 -- the linear steps, over plain variables
@@ -32,9 +33,6 @@ costs_joined n x few h = (omega (arith, ints), omega (arith, ints))
 
 floors_joined : (n : ℕ) (x : ℤ) → n ≤ 96 → Within (n * 404000000000000) x → Within 50000000000000000 x
 floors_joined n x few h = (omega (arith, ints), omega (arith, ints))
-
-wider : (v : ℤ) → Within 17000000000 v → Within 20000000000 v
-wider v h = (omega (arith, ints), omega (arith, ints))
 
 below_apart : (x y cost c worth : ℤ) → x ≤ℤ y → y ≡ cost -ℤ worth → c ≡ cost → x ≤ℤ (c -ℤ worth)
 below_apart x y cost c worth h e g = omega (arith, ints)
@@ -57,7 +55,7 @@ module _ (c : CurveNumbers) (power : List ℤ) (made : Curves.Made c) (fits : Ro
   least_small t v h w =
       let l = (least_is t v h).reached in
       let m = (most_small t h).1 in
-      subst (Within 404000000000000) (sym l.3) (net_cost_within c made v (wider v w) l.0 (on_curve l.0 l.1) (omega (arith, ints, l.2)))
+      subst (Within 404000000000000) (sym l.3) (net_cost_within c made v (wider 17000000000 20000000000 v (omega arith) w) l.0 (on_curve l.0 l.1) (omega (arith, ints, l.2)))
 
   pub leasts_small : (net : List ℤ) (n : ℕ) → n ≤ length power → ((t : ℕ) → t < length power → Within 17000000000 (at net t)) → Within (n * 404000000000000) (total n (λ t. least_of c power t (at net t)))
   leasts_small net n l limits = total_within n 404000000000000 (λ t. least_of c power t (at net t)) (λ t k. least_small t (at net t) (omega arith) (limits t (omega arith)))
@@ -66,7 +64,7 @@ module _ (c : CurveNumbers) (power : List ℤ) (made : Curves.Made c) (fits : Ro
   pub least_asked : (t : ℕ) (v : ℤ) → t < length power → Within 17000000000 v → asked_test c v (pos 0) (most_of c power t) ≡ true
   least_asked t v h w =
       let m = most_small t h in
-      asked_told c v (pos 0) (most_of c power t) (record { value = wider v w; on = on_curve (pos 0) (omega (arith, ints)); range = m.0.0; under = m.1 })
+      asked_told c v (pos 0) (most_of c power t) (record { value = wider 17000000000 20000000000 v (omega arith) w; on = on_curve (pos 0) (omega (arith, ints)); range = m.0.0; under = m.1 })
 
 module _ (f : Table) (made : Made f) where
   -- the power available to row r has a cell for each period

@@ -14,7 +14,7 @@ use Rattle.market.proofs.Totals.{total_cong}
 use Rattle.kinds.specs.declared.thermal_unit.ThermalUnit.{ThermalUnit}
 use Rattle.kinds.specs.Thermal.{before, lasting, rule_12, rule_13, sequences, least, keeps, weight_in, weight, lightest}
 use Rattle.kinds.specs.Walks.{may_change, best}
-use Rattle.kinds.proofs.Leasts.{min_cases, antisym}
+use Rattle.kinds.proofs.Leasts.{min_cases, antisym, add_le}
 
 -- ---- the least over what a test keeps of a list
 module _ {X : Type 0} (keep : X → Bool) (f : X → ℤ) (a : ℤ) where
@@ -138,9 +138,6 @@ by_staying false x y z h = h
 by_changing : (c : Bool) (x y z : ℤ) → c ≡ true → y ≤ℤ z → cond c (int_min x y) x ≤ℤ z
 by_changing true x y z e h = omega (arith, ints, clamps)
 by_changing false x y z e h = let z : ◌≡◌ {A = ℕ} 0 1 = cc in absurd (omega arith)
-
-add_le : (a x y z : ℤ) → x ≤ℤ y → z ≡ a +ℤ y → (a +ℤ x) ≤ℤ z
-add_le a x y z h e = omega (arith, ints)
 
 module _ (u : ThermalUnit) (g : ℕ → ℕ → ℕ → ℤ) where
   -- the weight of n periods from t on, after the mark b

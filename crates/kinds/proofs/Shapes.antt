@@ -1,18 +1,18 @@
--- The first two questions of a table, by tests and by what they mean, and where a row stands in it. Assumes nothing.
-use Rattle.std.proofs.Common.{◌≡◌, ℕ, ◌+◌, ◌-◌, ◌*◌, ◌≤◌, Bool, true, false, ◌&&◌, eqb, leb, List, take, drop, Decides, Result, sym, refl, ap, subst, arith, MatchResult}
+-- The first two questions of a table, by tests and by what they mean. Assumes nothing.
+use Rattle.std.proofs.Common.{◌≡◌, ℕ, ◌*◌, ◌≤◌, Bool, true, false, ◌&&◌, eqb, leb, Decides, Result, sym, refl, subst, MatchResult}
 use Rattle.std.proofs.lemmas.Bool.{and_parts, and_from, both_ways, leb-true, le-leb, eqb-true, eq-eqb}
-use Rattle.market.specs.Clearing.{part}
+use Rattle.std.proofs.lemmas.Bool.Decides.{Decides-and}
 use Rattle.kinds.specs.declared.table_fault.TableFault.{TableFault}
 use Rattle.kinds.specs.declared.table_fault.TableFault.TheVariants.{Periods, Sizes}
 use Rattle.kinds.specs.Tables as Tables
 use Rattle.kinds.specs.Tables.{PeriodsFit, LengthsFit, Shaped, Unshaped, shape_test, first_told, shape_told, rows_told}
 
+pub decides_from_to : (low high n : ℕ) → Decides (leb low n && leb n high) ((low ≤ n) × (n ≤ high))
+decides_from_to low high n = Decides-and (leb low n) (leb n high) (leb-true low n, le-leb low n) (leb-true n high, le-leb n high)
+
 module _ (periods rows cells : ℕ) where
   decides_periods : Decides (leb 1 periods && leb periods 96) (PeriodsFit periods)
-  decides_periods = (
-    λ e. let p = and_parts (leb 1 periods) (leb periods 96) e in (leb-true _ _ p.0, leb-true _ _ p.1),
-    λ h. and_from (leb 1 periods) (leb periods 96) (le-leb _ _ h.0) (le-leb _ _ h.1),
-  )
+  decides_periods = decides_from_to 1 96 periods
 
   decides_lengths : Decides (leb rows 32 && eqb cells (rows * periods)) (LengthsFit periods rows cells)
   decides_lengths = (
@@ -52,10 +52,3 @@ module _ (periods rows : ℕ) where
   -- what the computation tells
   pub rows_so : (o : Result (Unit {0}) TableFault) → o ≡ rows_told periods rows → MatchResult o (λ _. PeriodsFit periods × (rows ≤ 32)) (Crowded periods rows)
   rows_so o e = subst (λ x. MatchResult x (λ _. PeriodsFit periods × (rows ≤ 32)) (Crowded periods rows)) (sym e) (few_by _ _ refl refl)
-
--- a row's part of a table, by where it begins and ends
-pub part_is : {A : Type 0} (n row : ℕ) (xs : List A) → take (row * n + n - row * n) (drop (row * n) xs) ≡ part n row xs
-part_is n row xs = ap (λ k. take k (drop (row * n) xs)) (span row n)
-  where
-    span : (row n : ℕ) → row * n + n - row * n ≡ n
-    span row n = omega arith

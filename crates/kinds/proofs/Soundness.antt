@@ -1,15 +1,17 @@
 -- No lawful schedule of a thermal unit undercuts the floor. Assumes nothing.
-use Rattle.std.proofs.Common.{◌≡◌, ℕ, zero, suc, ◌<◌, Bool, true, false, cond, length, ℤ, pos, ◌+ℤ◌, ◌-ℤ◌, ◌*ℤ◌, ◌≤ℤ◌, Ok, refl, ap, ◌∙◌, subst, arith}
+use Rattle.std.proofs.Common.{◌≡◌, ℕ, zero, suc, ◌<◌, Bool, true, false, cond, length, ℤ, pos, ◌+ℤ◌, ◌-ℤ◌, ◌*ℤ◌, ◌≤ℤ◌, Decides, Ok, refl, ap, ◌∙◌, subst, arith}
 use lib.IntN.{*ℤ-zero, zero-*ℤ}
 use lib.Signed.{le_z}
 use Rattle.std.proofs.lemmas.List.{get_or_past}
 use Rattle.std.proofs.lemmas.Int.{ints}
 use Rattle.std.proofs.lemmas.Bool.{and_parts, and_from, leb-true}
+use Rattle.std.proofs.lemmas.Bool.Decides.{Decides-below_and}
 use Rattle.measures.specs.declared.Grains.{Grains}
 use Rattle.market.specs.Fleet.{Schedule, RowPrices}
 use Rattle.market.specs.Scans.{at, in_test, all_below}
 use Rattle.market.specs.Totals.{total}
-use Rattle.market.proofs.Ints.{times_sub, sub_times, add_times, times_assoc, times_mono}
+use Rattle.market.proofs.Ints.{times_add, times_sub, sub_times, add_times, times_assoc, times_mono}
+use Rattle.market.proofs.Scanning.{decides_le}
 use Rattle.market.proofs.Totals.{total_sub}
 use Rattle.kinds.specs.declared.thermal_unit.ThermalUnit.{ThermalUnit}
 use Rattle.kinds.specs.Curves.{lowest, highest, running_cost, net_cost}
@@ -29,12 +31,6 @@ k a b = pos 1000 *ℤ (a *ℤ b)
 four : (a b c d : ℤ) → pos 1000 *ℤ (a -ℤ b -ℤ c +ℤ d) ≡ pos 1000 *ℤ a -ℤ pos 1000 *ℤ b -ℤ pos 1000 *ℤ c +ℤ pos 1000 *ℤ d
 four a b c d = omega (arith, ints)
 
-two : (a b : ℤ) → pos 1000 *ℤ (a -ℤ b) ≡ pos 1000 *ℤ a -ℤ pos 1000 *ℤ b
-two a b = omega (arith, ints)
-
-sum : (a b : ℤ) → pos 1000 *ℤ (a +ℤ b) ≡ pos 1000 *ℤ a +ℤ pos 1000 *ℤ b
-sum a b = omega (arith, ints)
-
 worth : (q x x' y y' p : ℤ) → (q -ℤ pos 1000 *ℤ (x -ℤ x' -ℤ y +ℤ y')) *ℤ p ≡ q *ℤ p -ℤ (k x p -ℤ k x' p -ℤ k y p +ℤ k y' p)
 worth q x x' y y' p =
     sub_times q (pos 1000 *ℤ (x -ℤ x' -ℤ y +ℤ y')) p
@@ -43,31 +39,29 @@ worth q x x' y y' p =
     ∙ four (x *ℤ p) (x' *ℤ p) (y *ℤ p) (y' *ℤ p))
 
 passed_on : (x y p : ℤ) → pos 1000 *ℤ (y -ℤ x) *ℤ p ≡ k y p -ℤ k x p
-passed_on x y p = times_assoc (pos 1000) (y -ℤ x) p ∙ ap (λ r. pos 1000 *ℤ r) (sub_times y x p) ∙ two (y *ℤ p) (x *ℤ p)
+passed_on x y p = times_assoc (pos 1000) (y -ℤ x) p ∙ ap (λ r. pos 1000 *ℤ r) (sub_times y x p) ∙ times_sub (pos 1000) (y *ℤ p) (x *ℤ p)
 
 priced : (x d e a : ℤ) → pos 0 ≤ℤ x → (d -ℤ e) ≤ℤ a → (k x d -ℤ k x e) ≤ℤ (k x a)
 priced x d e a up h =
-    subst (λ r. r ≤ℤ (k x a)) (ap (λ r. pos 1000 *ℤ r) (times_sub x d e) ∙ two (x *ℤ d) (x *ℤ e)) (times_mono (pos 1000) (x *ℤ (d -ℤ e)) (x *ℤ a) (omega (arith, ints)) (times_mono x (d -ℤ e) a up h))
+    subst (λ r. r ≤ℤ (k x a)) (ap (λ r. pos 1000 *ℤ r) (times_sub x d e) ∙ times_sub (pos 1000) (x *ℤ d) (x *ℤ e)) (times_mono (pos 1000) (x *ℤ (d -ℤ e)) (x *ℤ a) (omega (arith, ints)) (times_mono x (d -ℤ e) a up h))
 
 one_period : (x x' y y' q p o a b w c : ℤ) → pos 0 ≤ℤ x → pos 0 ≤ℤ y → (p -ℤ o) ≤ℤ a → (o -ℤ p) ≤ℤ b → w ≤ℤ (c -ℤ (q -ℤ pos 1000 *ℤ (x -ℤ x' -ℤ y +ℤ y')) *ℤ p)
     → (w -ℤ pos 1000 *ℤ (x *ℤ a +ℤ y *ℤ b) +ℤ pos 1000 *ℤ (y -ℤ x) *ℤ o) ≤ℤ (c -ℤ q *ℤ p +ℤ pos 1000 *ℤ (y' -ℤ x') *ℤ p)
 one_period x x' y y' q p o a b w c x-up y-up rise fall h =
-    rw (sum (x *ℤ a) (y *ℤ b), passed_on x y o, passed_on x' y' p)
+    rw (times_add (pos 1000) (x *ℤ a) (y *ℤ b), passed_on x y o, passed_on x' y' p)
     (linear w c (q *ℤ p) (k x p) (k x' p) (k y p) (k y' p) (k x o) (k y o) (k x a) (k y b) (subst (λ r. w ≤ℤ (c -ℤ r)) (worth q x x' y y' p) h) (priced x p o a x-up rise) (priced y o p b y-up fall))
 
 -- ---- a lawful period
-at_most : (a b : ℤ) → le_z a b ≡ true → a ≤ℤ b
-at_most a b h = omega (arith, ints)
-
 between : (a z b : ℤ) → a ≤ℤ z → z ≤ℤ b → a ≤ℤ b
 between a z b h k = omega (arith, ints)
 
-with_no_load : (least cost worth z : ℤ) → least ≤ℤ (cost -ℤ worth) → (least +ℤ z) ≤ℤ (cost +ℤ z -ℤ worth)
-with_no_load least cost worth z h = omega (arith, ints)
+-- the same added on both sides
+both_more : (least cost worth z : ℤ) → least ≤ℤ (cost -ℤ worth) → (least +ℤ z) ≤ℤ (cost +ℤ z -ℤ worth)
+both_more least cost worth z h = omega (arith, ints)
 
-pub all_pass : (n : ℕ) (test : ℕ → Bool) → ((t : ℕ) → t < n → test t ≡ true) → all_below test n ≡ true
-all_pass zero test h = refl
-all_pass (suc n) test h = and_from (test n) (all_below test n) (h n (omega arith)) (all_pass n test (λ t l. h t (omega arith)))
+-- a test that passes below n, by the test of them all
+pub all_pass : (n : ℕ) (test : ℕ → Bool) → Decides (all_below test n) ((t : ℕ) → t < n → test t ≡ true)
+all_pass n test = Decides-below_and test (λ t. test t ≡ true) (all_below test) (λ t. (λ e. e, λ e. e)) refl (λ n. refl) n
 
 -- what passes from period to period cancels
 total_passing : (n : ℕ) (f g passed : ℕ → ℤ) → ((t : ℕ) → t < n → (f t +ℤ passed t) ≤ℤ (g t +ℤ passed (suc t))) → (total n f +ℤ passed 0) ≤ℤ (total n g +ℤ passed n)
@@ -84,16 +78,13 @@ module _ (u : ThermalUnit) (q : RowPrices) where
   unfolding running_weight
   light t z true h =
       let on = and_parts (le_z (lowest u.curve) z) (le_z z (highest u.curve)) h in
-      let low = at_most (lowest u.curve) z on.0 in
-      let high = at_most z (highest u.curve) on.1 in
-      with_no_load _ (running_cost u.curve z) (value q t *ℤ z) (yuan u.no_load) ((least_over_least (lowest u.curve) (highest u.curve) (net_cost u.curve (value q t)) (between _ z _ low high)).bound z low high)
+      let low = (decides_le (lowest u.curve) z).0 on.0 in
+      let high = (decides_le z (highest u.curve)).0 on.1 in
+      both_more _ (running_cost u.curve z) (value q t *ℤ z) (yuan u.no_load) ((least_over_least (lowest u.curve) (highest u.curve) (net_cost u.curve (value q t)) (between _ z _ low high)).bound z low high)
   light t z false h =
       let none = and_parts (le_z (pos 0) z) (le_z z (pos 0)) h in
       let e : pos 0 ≡ z = omega (arith, ints) in
       subst (λ r. pos 0 ≤ℤ (pos 0 -ℤ value q t *ℤ r)) e (rw *ℤ-zero (omega (arith, ints)))
-
-  add_both : (w c v s : ℤ) → w ≤ℤ (c -ℤ v) → (w +ℤ s) ≤ℤ (c +ℤ s -ℤ v)
-  add_both w c v s h = omega (arith, ints)
 
   module _ (s : Schedule) (n : ℕ) where
     -- what period t passes on from the one before
@@ -105,15 +96,15 @@ module _ (u : ThermalUnit) (q : RowPrices) where
     unfolding weight_in period_cost value
     period t lawful x-up y-up =
         one_period (at q.rise t) (at q.rise (suc t)) (at q.fall t) (at q.fall (suc t)) (at q.net t) (at s.outputs t) (output_before u.output s.outputs t) _ _ _ _ x-up y-up
-        (at_most _ _ lawful.rise) (at_most _ _ lawful.fall)
-        (add_both _ _ (value q t *ℤ at s.outputs t) _ (light t (at s.outputs t) (running (mark_in s t)) lawful.output))
+        ((decides_le _ _).0 lawful.rise) ((decides_le _ _).0 lawful.fall)
+        (both_more _ _ (value q t *ℤ at s.outputs t) _ (light t (at s.outputs t) (running (mark_in s t)) lawful.output))
 
     none_carried : at q.rise n ≡ pos 0 → at q.fall n ≡ pos 0 → carried n ≡ pos 0
     none_carried e f = rw (e, f) (zero-*ℤ (output_before u.output s.outputs n))
 
     module _ (c : Grains) (accepted : verdict u s n ≡ Ok c) where
       kept : keeps u n u.mark u.lasted s.marks ≡ true
-      kept = all_pass n _ (λ t h. let g = keeps_each u s n c accepted t h in and_from _ _ g.stop g.start)
+      kept = (all_pass n _).1 (λ t h. let g = keeps_each u s n c accepted t h in and_from _ _ g.stop g.start)
 
       pub sound : Mark u.mark → length s.marks ≡ n → length q.rise ≡ n → length q.fall ≡ n
           → ((t : ℕ) → t < n → pos 0 ≤ℤ at q.rise t) → ((t : ℕ) → t < n → pos 0 ≤ℤ at q.fall t)

@@ -3,7 +3,8 @@ use Rattle.std.proofs.Common.{◌≡◌, ℕ, Ok, Err, Result, MatchResult, sym,
 use Rattle.std.proofs.lemmas.Result.{MatchResult-at_err}
 use Rattle.std.specs.Result.{IsErrAnd}
 
-two : {A D : Type 0} (x : A) (d : D) (s : Result A D) → s ≡ Ok x → s ≡ Err d → ⊥
+-- no answer is both a value and a fault
+pub two : {A D : Type 0} (x : A) (d : D) (s : Result A D) → s ≡ Ok x → s ≡ Err d → ⊥
 two x d s e f = let z : ◌≡◌ {A = ℕ} 0 1 = cc in omega arith
 
 -- r is what the call gave, and s what that was turned into

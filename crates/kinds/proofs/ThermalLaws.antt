@@ -1,11 +1,11 @@
 -- A thermal unit's verdict and floor are what the rules say in words. Assumes nothing.
-use Rattle.std.proofs.Common.{◌≡◌, ℕ, zero, suc, ◌<◌, ◌≤◌, Bool, true, List, length, get_or, ℤ, pos, ◌-ℤ◌, ◌≤ℤ◌, None, Ok, sym, refl, ap, ◌∙◌, inl, inr, arith}
+use Rattle.std.proofs.Common.{◌≡◌, ℕ, zero, suc, ◌<◌, ◌≤◌, true, List, length, get_or, ℤ, pos, ◌-ℤ◌, ◌≤ℤ◌, None, Ok, sym, refl, ap, arith}
 use Rattle.std.proofs.lemmas.Int.{ints}
-use Rattle.std.proofs.lemmas.Bool.{and_parts, and_from, cases_eq, leb-true, le-leb}
+use Rattle.std.proofs.lemmas.Bool.{and_parts, and_from, leb-true, le-leb}
 use Rattle.measures.specs.Amounts.{grains}
 use Rattle.measures.specs.declared.Grains.{Grains}
 use Rattle.market.specs.Fleet.{Schedule, RowPrices}
-use Rattle.market.specs.Scans.{at, In, all_below}
+use Rattle.market.specs.Scans.{at, In}
 use Rattle.market.specs.Totals.{total}
 use Rattle.market.proofs.Scanning.{decides_in, decides_le}
 use Rattle.kinds.specs.declared.thermal_unit.ThermalUnit.{ThermalUnit}
@@ -115,12 +115,6 @@ module _ (u : ThermalUnit) (first : Mark u.mark) (s : Schedule) (n : ℕ) where
   }
 
 -- ---- the floor
-all_told : (n : ℕ) (test : ℕ → Bool) → all_below test n ≡ true → (t : ℕ) → t < n → test t ≡ true
-all_told zero test e t h = absurd (omega arith)
-all_told (suc n) test e t h =
-    let both = and_parts (test n) (all_below test n) e in
-    elim (cases_eq t n) [ inl is ↦ ap test is ∙ both.0 | inr ne ↦ all_told n test both.1 t (omega arith) ]
-
 marks_long : {n : ℕ} {ms : List ℕ} → Marks n ms → length ms ≡ n
 marks_long none = refl
 marks_long (more m rest) = ap suc (marks_long rest)
@@ -140,7 +134,7 @@ module _ (u : ThermalUnit) (first : Mark u.mark) (q : RowPrices) (n : ℕ) where
 
   sequence_keeps : (marks : List ℕ) → Sequence u n marks → keeps u n u.mark u.lasted marks ≡ true
   sequence_keeps marks s =
-      all_pass n _ (λ t h.
+      (all_pass n _).1 (λ t h.
       let old = mark_prior u.mark marks n t first s.each h in
       let new = mark_of (get_or marks t 0) (s.each t h) in
       and_from _ _ (stop_kept u marks n s.times t h old new) (start_kept u marks n s.times t h old new))
@@ -149,7 +143,7 @@ module _ (u : ThermalUnit) (first : Mark u.mark) (q : RowPrices) (n : ℕ) where
   to_sequence marks m k = record {
     long = marks_long m;
     each = marks_each m;
-    times = times_told u marks n (λ t h. (and_parts _ _ (all_told n _ k t h)).0) (λ t h. (and_parts _ _ (all_told n _ k t h)).1);
+    times = times_told u marks n (λ t h. (and_parts _ _ ((all_pass n _).0 k t h)).0) (λ t h. (and_parts _ _ ((all_pass n _).0 k t h)).1);
   }
 
   lightest_law : Lightest u q n (lightest u q n)

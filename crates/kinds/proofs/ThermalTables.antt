@@ -1,7 +1,7 @@
 -- The questions of a table of thermal units, by tests and by what they mean. Assumes nothing.
-use Rattle.std.proofs.Common.{◌≡◌, ℕ, ◌≤◌, true, ◌&&◌, leb, length, Decides, refl}
+use Rattle.std.proofs.Common.{◌≡◌, ◌≤◌, true, ◌&&◌, leb, length, Decides, refl}
 use Rattle.std.proofs.lemmas.Bool.{and_parts, and_from, leb-true, le-leb}
-use Rattle.std.proofs.lemmas.Bool.Decides.{Decides-and, Decides-below_and}
+use Rattle.std.proofs.lemmas.Bool.Decides.{Decides-below_and}
 use Rattle.market.specs.Scans.{all_below}
 use Rattle.market.proofs.Scanning.{decides_in}
 use Rattle.kinds.specs.declared.thermal_unit.ThermalUnit.{ThermalUnit}
@@ -11,13 +11,8 @@ use Rattle.kinds.specs.Thermal.{NumbersFit, unit}
 use Rattle.kinds.specs.ThermalTables.{Table, Made, curve, RowsFit, Fits, costs_test, times_test, ramps_test, limits_test, state_test, numbers_test, made_test}
 use Rattle.kinds.proofs.CurveTests.{decides_curves}
 use Rattle.kinds.proofs.Sequences.{mark_of}
+use Rattle.kinds.proofs.Shapes.{decides_from_to}
 use Rattle.kinds.proofs.ThermalLaws.{stopped_told, running_told, output_passes, laws}
-
-decides_leb : (a b : ℕ) → Decides (leb a b) (a ≤ b)
-decides_leb a b = (leb-true a b, le-leb a b)
-
-decides_from_to : (low high n : ℕ) → Decides (leb low n && leb n high) ((low ≤ n) × (n ≤ high))
-decides_from_to low high n = Decides-and (leb low n) (leb n high) (decides_leb low n) (decides_leb n high)
 
 module _ (u : ThermalUnit) where
   numbers_so : numbers_test u ≡ true → NumbersFit u

@@ -6,6 +6,7 @@ use Rattle.std.proofs.lemmas.Bool.{cases_lt, cases_eq}
 use Rattle.market.specs.Fleet.{Meaning, RowPrices, Priced, Facts, Reserved}
 use Rattle.market.specs.Scans.{at, In, Within, UpTo, in_test}
 use Rattle.market.proofs.Ints.{times_within}
+use Rattle.market.proofs.NetPrices.{difference_within}
 use Rattle.market.proofs.Scanning.{decides_in}
 use Rattle.market.proofs.Totals.{total_within}
 use Rattle.kinds.specs.declared.thermal_unit.ThermalUnit.{ThermalUnit}
@@ -21,7 +22,7 @@ use Rattle.kinds.proofs.Sequences.{Mark, on, off, mark_of, best_reached, lightes
 use Rattle.kinds.proofs.Soundness.{sound}
 
 -- ---- bounds of sums and choices
-wider : (a b : ℕ) (x : ℤ) → a ≤ b → Within a x → Within b x
+pub wider : (a b : ℕ) (x : ℤ) → a ≤ b → Within a x → Within b x
 wider a b x l h = (omega (arith, ints), omega (arith, ints))
 
 within_add : (a b : ℕ) (x y : ℤ) → Within a x → Within b y → Within (a + b) (x +ℤ y)
@@ -49,15 +50,12 @@ yuan_within n most h = (omega (arith, ints), omega (arith, ints))
 value_small : (n x x' y y' : ℤ) → Within 17000000000 n → UpTo 1000000 x → UpTo 1000000 x' → UpTo 1000000 y → UpTo 1000000 y' → Within 20000000000 (n -ℤ pos 1000 *ℤ (x -ℤ x' -ℤ y +ℤ y'))
 value_small n x x' y y' h a b c d = wider 19000000000 20000000000 _ (omega arith) (within_sub 17000000000 2000000000 n _ h (thousand 2000000 (x -ℤ x' -ℤ y +ℤ y') (omega (arith, ints), omega (arith, ints))))
 
-apart : (y x : ℤ) → UpTo 1000000 y → UpTo 1000000 x → Within 1000000 (y -ℤ x)
-apart y x h k = (omega (arith, ints), omega (arith, ints))
-
 -- a price on an allowance, and the output before the day at the prices of a fall and a rise
 pub price_small : (x l : ℤ) → UpTo 1000000 x → Within 20000 l → Within 20000000000 (x *ℤ l)
 price_small x l h k = times_within x l 1000000 20000 (within_up 1000000 x h) k
 
 pub carried_small : (f r o : ℤ) → UpTo 1000000 f → UpTo 1000000 r → Within 20000 o → Within 20000000000000 (pos 1000 *ℤ (f -ℤ r) *ℤ o)
-carried_small f r o h k w = times_within (pos 1000 *ℤ (f -ℤ r)) o 1000000000 20000 (thousand 1000000 _ (apart f r h k)) w
+carried_small f r o h k w = times_within (pos 1000 *ℤ (f -ℤ r)) o 1000000000 20000 (thousand 1000000 _ (difference_within 1000000 f r h k)) w
 
 inside : (low high x : ℤ) → pos 0 ≤ℤ low → high ≤ℤ pos 20000 → In low high x → Within 20000 x
 inside low high x a b h = (omega (arith, ints), omega (arith, ints))

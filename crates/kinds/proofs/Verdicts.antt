@@ -1,15 +1,13 @@
 -- A verdict asked period by period tells the sum of the costs or the first rule broken, and a loop gives it. Assumes nothing.
 use Rattle.std.proofs.Common.{◌≡◌, ℕ, zero, suc, ◌+◌, ◌<◌, ℤ, pos, ◌+ℤ◌, Some, None, Ok, Err, Option, Result, sym, refl, ap, ◌∙◌, subst, ⊎_elim, arith, below_more}
 use Rattle.std.proofs.lemmas.Bool.{cases_order}
+use Rattle.std.proofs.lemmas.Option.{none-some}
 use Rattle.measures.specs.Amounts.{grains}
 use Rattle.measures.specs.declared.Grains.{Grains}
 use Rattle.market.specs.Fleet.{broken}
 use Rattle.market.specs.declared.broken.Broken.{Broken}
 use Rattle.market.proofs.Totals.{total_more}
 use Rattle.kinds.specs.Verdicts.{and_then, verdict_over, Keeps, LawfulAt, BreaksFirst, breaks, Tells, Judged}
-
-unbroken : (o : Option ℕ) (k : ℕ) → o ≡ None → o ≡ Some k → ⊥
-unbroken o k e f = let z : ◌≡◌ {A = ℕ} 0 1 = cc in omega arith
 
 module _ (rule : ℕ → Option ℕ) (cost : ℕ → ℤ) where
   keeps_more : (n : ℕ) → Keeps rule n → rule n ≡ None → Keeps rule (suc n)
@@ -30,13 +28,13 @@ module _ (rule : ℕ → Option ℕ) (cost : ℕ → ℤ) where
   first_same : (n : ℕ) (e f : Broken) → BreaksFirst rule n e → BreaksFirst rule n f → e ≡ f
   first_same n e f (breaks s j a b c) (breaks t k x y z) =
       ⊎_elim (λ same. let there : rule s ≡ Some k = ap rule same ∙ z in let number : j ≡ k = cc in cc)
-      (⊎_elim (λ sooner. absurd (unbroken (rule s) j (y s sooner) c)) (λ later. absurd (unbroken (rule t) k (b t later) z))) (cases_order s t)
+      (⊎_elim (λ sooner. absurd (none-some j (sym (y s sooner) ∙ c))) (λ later. absurd (none-some k (sym (b t later) ∙ z)))) (cases_order s t)
 
   -- one verdict alone tells what is so
   tells_same : (n : ℕ) (v w : Result Grains Broken) → Tells rule cost n v → Tells rule cost n w → v ≡ w
   tells_same n (Ok c) (Ok d) l m = ap (λ z. Ok (grains z)) (l.sum ∙ sym m.sum)
-  tells_same n (Ok c) (Err e) l (breaks t k w b is) = absurd (unbroken (rule t) k (l.keeps t w) is)
-  tells_same n (Err e) (Ok d) (breaks t k w b is) m = absurd (unbroken (rule t) k (m.keeps t w) is)
+  tells_same n (Ok c) (Err e) l (breaks t k w b is) = absurd (none-some k (sym (l.keeps t w) ∙ is))
+  tells_same n (Err e) (Ok d) (breaks t k w b is) m = absurd (none-some k (sym (m.keeps t w) ∙ is))
   tells_same n (Err e) (Err f) l m = ap Err (first_same n e f l m)
 
   pub judged_so : (n : ℕ) (v : Result Grains Broken) → Tells rule cost n v → Judged rule cost n v

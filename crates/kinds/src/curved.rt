@@ -26,6 +26,7 @@ fn first_uncurved<R: Curved>(rows: &[R]) -> Result<(), TableFault>
 }
 
 // Whether every row has a curve. It is said of the rows with any other past the last, which nothing depends on.
+// Thin over a private function, so that an edit that must fail is refused for the fact and not for its answers' file.
 pub fn curves_fit<R: Curved>(rows: &[R]) -> Result<(), TableFault>
     ensures { (past : R) → MatchResult result (λ _. CurvesFit (curve_in R.curve rows.now past) (length rows.now)) (λ e. NoCurve (curve_in R.curve rows.now past) (length rows.now) e) }
 {

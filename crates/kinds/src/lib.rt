@@ -14,7 +14,7 @@ mod thermal_unit;
 
 pub use curve::Curve;
 pub use curve_fault::CurveFault;
-pub use curve_numbers::CurveNumbers;
+pub use curve_numbers::{CurveNumbers, MOST_SEGMENTS};
 pub use curved::{Curved, curves_fit};
 pub use rule::{RUNNING, Rule};
 pub use station::Station;

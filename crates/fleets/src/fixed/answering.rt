@@ -10,6 +10,7 @@ ghost use Rattle.fleets.specs.Held.{rows_of};
 use crate::fixed::Fixed;
 use crate::fixed::row::Row;
 use crate::judging::judged;
+use crate::tables::part;
 use market::{Broken, Fleet, RowPrices, Schedule, prices_asked, row_asked, schedule_asked};
 use measures::Grains;
 
@@ -19,9 +20,8 @@ impl Fixed<'_> {
         requires { row < length self.now.nodes.now }
         ensures { result.outputs.now ≡ part self.now.periods row self.now.outputs.now }
     {
-        let start = row * self.periods;
         Row {
-            outputs: &self.outputs[start..start + self.periods],
+            outputs: part(self.outputs, row, self.periods),
         }
     }
 
@@ -44,6 +44,8 @@ impl Fixed<'_> {
     }
 }
 
+// An impl of its own: one for every table would be an impl for any type, which Rust lets only the trait's own crate write; and what each shows
+// is its own proof.
 impl Fleet for Fixed<'_> {
     ghost periods = { λ f. (fixed (rows_of f)).periods };
 

@@ -9,6 +9,7 @@ ghost use Rattle.fleets.specs.Held.{stations_of};
 use crate::judging::judged;
 use crate::renewables::Renewables;
 use crate::renewables::row::Row;
+use crate::tables::part;
 use kinds::Curve;
 use market::{Broken, Fleet, RowPrices, Schedule, prices_asked, row_asked, schedule_asked};
 use measures::Grains;
@@ -20,12 +21,11 @@ impl Renewables<'_> {
         ensures curve { result.curve.numbers ≡ curve (stations_of self.now) row }
         ensures available { result.available.now ≡ power (stations_of self.now) row }
     {
-        let start = row * self.periods;
         Row {
             curve: Curve {
                 numbers: self.stations[row].curve,
             },
-            available: &self.available[start..start + self.periods],
+            available: part(self.available, row, self.periods),
         }
     }
 
@@ -48,6 +48,8 @@ impl Renewables<'_> {
     }
 }
 
+// An impl of its own: one for every table would be an impl for any type, which Rust lets only the trait's own crate write; and what each shows
+// is its own proof.
 impl Fleet for Renewables<'_> {
     ghost periods = { λ f. (renewables (stations_of f)).periods };
 

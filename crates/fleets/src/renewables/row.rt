@@ -1,9 +1,11 @@
 // A row of a table of renewable stations.
 ghost use Rattle.std.specs.Prelude.{◌≡◌, ℕ, ◌<◌, ◌≤◌, length, pos};
+ghost use Rattle.std.specs.Int.{int_min};
 ghost use Rattle.measures.specs.Amounts.{grains};
-ghost use Rattle.market.specs.Scans.{Within, at, in_test};
+ghost use Rattle.market.specs.Scans.{Within, UpTo, at, in_test};
 ghost use Rattle.market.specs.Totals.{total};
-ghost use Rattle.kinds.specs.Curves.{running_cost};
+ghost use Rattle.kinds.specs.Curves.{highest, net_cost, running_cost};
+ghost use Rattle.kinds.specs.Leasts.{least_over};
 ghost use Rattle.kinds.specs.Renewables.{RowFits, most_of, least_of};
 ghost use Rattle.kinds.proofs.CurveTests.{made_so};
 ghost use Rattle.kinds.proofs.Segments.{running_cost_within};
@@ -22,22 +24,21 @@ pub(crate) struct Row<'a> {
 }
 
 impl Row<'_> {
-    // The most that the row may feed in in a period; periods count from 0 here.
-    fn most(&self, period: usize) -> Tenths
-        requires { period < length self.now.available.now }
-        ensures { result.0 ≡ most_of self.now.curve.numbers self.now.available.now period }
+    // The most that the row may feed in where so much power is available.
+    fn most(&self, power: Tenths) -> Tenths
+        ensures { result.0 ≡ int_min power.0 (highest self.now.curve.numbers) }
     {
-        Tenths(self.available[period]).min(self.curve.highest())
+        power.min(self.curve.highest())
     }
 
-    // The least of running cost less worth over the outputs that the row may have in a period.
-    fn least(&self, period: usize, value: NetPrice) -> Grains
-        requires within { period < length self.now.available.now }
+    // The least of running cost less worth over the outputs that the row may have where so much power is available.
+    fn least(&self, power: Tenths, value: NetPrice) -> Grains
+        requires power { UpTo 20000 power.0 }
         requires limit { Within 17000000000 value.0 }
-        ensures { result.0 ≡ least_of self.now.curve.numbers self.now.available.now period value.0 }
+        ensures { result.0 ≡ least_over (pos 0) (int_min power.0 (highest self.now.curve.numbers)) (net_cost self.now.curve.numbers value.0) }
     {
         self.curve
-            .least(value, Tenths(0), self.most(period))
+            .least(value, Tenths(0), self.most(power))
             .unwrap()
     }
 
@@ -48,8 +49,8 @@ impl Row<'_> {
         ensures { result ≡ grains (total (length self.now.available.now) (λ t. least_of self.now.curve.numbers self.now.available.now t (at net.now t))) }
     {
         let mut all = Grains(0);
-        for (period, price) in net.iter().enumerate() {
-            all = all + self.least(period, NetPrice(*price));
+        for (price, power) in net.iter().zip(self.available) {
+            all = all + self.least(Tenths(*power), NetPrice(*price));
         }
         all
     }
@@ -63,7 +64,7 @@ impl AlwaysRuns for Row<'_> {
     ghost cost = { λ row output. running_cost row.curve.numbers output };
 
     fn allows(&self, period: usize, output: Tenths) -> bool {
-        Tenths(0) <= output && output <= self.most(period)
+        Tenths(0) <= output && output <= self.most(Tenths(self.available[period]))
     }
 
     fn cost(&self, output: Tenths) -> Grains {

@@ -4,10 +4,8 @@ ghost use Rattle.kinds.specs.Curves.{CountFits, RangesFit, Rises, Made, Fits, Re
 
 use crate::curve::Curve;
 use crate::curve_fault::CurveFault;
-use crate::curve_numbers::CurveNumbers;
+use crate::curve_numbers::{CurveNumbers, MOST_SEGMENTS};
 use market::outside;
-
-const MOST_SEGMENTS: usize = 10;
 
 const MOST_END: i32 = 20_000;
 
@@ -54,6 +52,7 @@ impl CurveNumbers {
     }
 
     // Whether the numbers are those of a curve.
+    // Thin over a private function, so that an edit that must fail is refused for the fact and not for its answers' file.
     pub fn check(&self) -> Result<(), CurveFault>
         ensures { MatchResult result (λ _. Fits self.now) (λ e. Refused self.now e) }
     {

@@ -3,7 +3,6 @@ use Rattle.kinds.specs.Renewables.{curve, RowFits}
 use Rattle.kinds.proofs.CurveTests.{made_told}
 use Rattle.kinds.proofs.RenewableRows.{power_long}
 use Rattle.kinds.proofs.RenewableTables.{made_so}
-use Rattle.kinds.proofs.Shapes.{part_is}
 use Rattle.fleets.specs.Held.{stations_of}
 use Rattle.fleets.proofs.renewables.Renewables.row.Goals as goal
 
@@ -14,7 +13,7 @@ pub invariant_of-result-2 : goal.invariant_of-result-2
 invariant_of-result-2 c =
     let f = stations_of c.args.self.now in
     let m = made_so f c.args.self.now.made in
-    let is = sym (part_is f.periods c.args.row f.available) in
+    let is = sym c.part.ensures in
     record {
       few = subst (λ xs. length xs ≤ 96) is (omega (arith, power_long f m c.args.row c.requires, m.shape.day.1));
       fits = subst (RowFits (curve f c.args.row)) is (m.rows c.args.row c.requires);

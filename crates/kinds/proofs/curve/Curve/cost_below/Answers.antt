@@ -17,28 +17,28 @@ mul-cost-requires c =
     omega (arith, ints)
 
 -- the product is what the segment costs
-segment_is : (c : After-below) → c.net_price-in-loop-segment.result.0 *ℤ c.below.result.0 ≡ cost_of c.args.self.now.numbers (made (goal.at.mul-requires c).After-lowest) c.loop-segment.segment c.args.output.0
-segment_is c = λ j. c.net_price-in-loop-segment.ensures j *ℤ c.below.ensures j
+segment_is : (c : After-below) → c.net_price-in-loop-number.result.0 *ℤ c.below.result.0 ≡ cost_of c.args.self.now.numbers (made (goal.at.mul-requires c).After-lowest) c.loop-number.number c.args.output.0
+segment_is c = λ j. c.net_price-in-loop-number.ensures j *ℤ c.below.ensures j
 
 pub mul-requires : goal.mul-requires
 mul-requires c =
     let e = segment_is c in
-    let w = cost_within c.args.self.now.numbers (made (goal.at.mul-requires c).After-lowest) c.loop-segment.segment c.args.output.0 c.loop-segment-test.true in
+    let w = cost_within c.args.self.now.numbers (made (goal.at.mul-requires c).After-lowest) c.loop-number.number c.args.output.0 c.loop-number-test.true in
     omega (arith, ints)
 
 pub add-cost-requires : goal.add-cost-requires
 add-cost-requires c =
     let m = made (goal.at.add-cost-requires c).After-lowest in
     let e = c.mul.ensures ∙ segment_is (goal.at.add-cost-requires c).After-below in
-    let w = cost_within c.args.self.now.numbers m c.loop-segment.segment c.args.output.0 c.loop-segment-test.true in
-    let so_far : Within 44000000000000 c.loop-segment.cost.0 = subst (Within 44000000000000) (sym c.loop-segment.invariant) (cost_to_within c.args.self.now.numbers m c.loop-segment.segment c.args.output.0 (omega arith)) in
+    let w = cost_within c.args.self.now.numbers m c.loop-number.number c.args.output.0 c.loop-number-test.true in
+    let so_far : Within 44000000000000 c.loop-number.cost.0 = subst (Within 44000000000000) (sym c.loop-number.invariant) (cost_to_within c.args.self.now.numbers m c.loop-number.number c.args.output.0 (omega arith)) in
     omega (arith, ints)
 
-pub loop-segment-preserved : goal.loop-segment-preserved
-loop-segment-preserved c =
+pub loop-number-preserved : goal.loop-number-preserved
+loop-number-preserved c =
     c.add-cost.ensures
-    ∙ cost_more c.args.self.now.numbers (made (goal.at.loop-segment-preserved c).After-lowest) c.loop-segment.segment c.args.output.0 c.loop-segment.cost.0 c.mul.result.0
-    c.loop-segment.invariant (c.mul.ensures ∙ segment_is (goal.at.loop-segment-preserved c).After-below)
+    ∙ cost_more c.args.self.now.numbers (made (goal.at.loop-number-preserved c).After-lowest) c.loop-number.number c.args.output.0 c.loop-number.cost.0 c.mul.result.0
+    c.loop-number.invariant (c.mul.ensures ∙ segment_is (goal.at.loop-number-preserved c).After-below)
 
 pub returns : goal.returns
-returns c = cost_end c.args.self.now.numbers (made (goal.at.returns c).After-lowest) c.loop-segment.segment c.args.output.0 _ (omega arith) c.loop-segment.invariant
+returns c = cost_end c.args.self.now.numbers (made (goal.at.returns c).After-lowest) c.loop-number.number c.args.output.0 _ (omega arith) c.loop-number.invariant
