@@ -1,3 +1,4 @@
+pub mod Turns
 pub mod Telling
 pub mod Asking
 pub mod Fitting

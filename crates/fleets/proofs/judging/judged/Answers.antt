@@ -10,7 +10,7 @@ use Rattle.kinds.specs.Rules.{number_of, broken_by, running_rule}
 use Rattle.kinds.specs.Verdicts.{LawfulAt, Judged}
 use Rattle.kinds.proofs.Telling.{told_ok, told_err}
 use Rattle.kinds.proofs.Verdicts.{lawful_more, judged_lawful, judged_broken}
-use Rattle.fleets.proofs.Turns.{front, spent}
+use Rattle.kinds.proofs.Turns.{front, spent}
 use Rattle.fleets.proofs.judging.judged.Goals as goal
 
 -- the rule of a period, as it was asked

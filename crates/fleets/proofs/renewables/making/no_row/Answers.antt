@@ -5,7 +5,7 @@ use Rattle.std.specs.Slice.Iter.{iter_rest, chunks_exact_rest}
 use Rattle.kinds.specs.declared.table_fault.TableFault.{TableFault}
 use Rattle.kinds.specs.Renewables.{Table, table, curve, power, no_station, RowFits, RowRefused, RowsFit, no_row}
 use Rattle.kinds.specs.declared.curve_numbers.CurveNumbers.{CurveNumbers}
-use Rattle.fleets.proofs.Turns.{front, spent, front_part, spent_parts}
+use Rattle.kinds.proofs.Turns.{front, spent, front_part, spent_parts}
 use Rattle.fleets.proofs.renewables.making.no_row.Goals as goal
 use Rattle.fleets.proofs.renewables.making.no_row.Goals.{In-Some}
 
