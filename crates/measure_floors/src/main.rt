@@ -2,15 +2,13 @@
 #![tactic(auto)]
 
 use anyhow::anyhow;
-use kinds::{CurveNumbers, ThermalUnit};
+use kinds::{CurveNumbers, MOST_PERIODS, RUNNING, ThermalUnit};
 use market::{Fleet, RowPrices};
 use measures::Grains;
 use std::alloc::Global;
 use std::array;
 use std::time::Instant;
 use thermal::Thermal;
-
-const PERIODS: usize = 96;
 
 const FLOORS: u32 = 20_000;
 
@@ -42,7 +40,7 @@ fn unit(segments: u16, width: u16, time: u16) -> ThermalUnit {
         ramp_down: 500,
         start_limit: i32::from(width),
         stop_limit: i32::from(width),
-        mark: 1,
+        mark: RUNNING,
         lasted: usize::from(time),
         output: i32::from(width),
     }
@@ -53,16 +51,17 @@ fn net_price(turn: u32) -> i64 {
     i64::from(turn.wrapping_mul(7_919) % 60_001) * 1_000
 }
 
-// Asks for floors over and over, with one net price changed in each turn, and tells their sum in grains, so that each is needed.
+// Asks for floors over and over, with one net price changed in each turn, and tells their sum in grains, so that each is needed. A turn goes by
+// its number, which makes the price and names its period.
 fn sum_of_floors(table: &Thermal<'_>) -> i64 {
-    let mut net = [30_000_000i64; PERIODS];
+    let mut net = [30_000_000i64; MOST_PERIODS];
     let mut sum = 0i64;
     for turn in 0..FLOORS {
-        net[turn as usize % PERIODS] = net_price(turn);
+        net[turn as usize % MOST_PERIODS] = net_price(turn);
         let prices = RowPrices {
             net: &net,
-            rise: &[1_000; PERIODS],
-            fall: &[2_000; PERIODS],
+            rise: &[1_000; MOST_PERIODS],
+            fall: &[2_000; MOST_PERIODS],
         };
         if let Ok(Grains(floor)) = table.floor(0, &prices) {
             sum = sum.wrapping_add(floor);
@@ -76,13 +75,13 @@ fn time_floors(rt: &HostRuntime) -> anyhow::Result<()> {
     let units = [unit(reread(heap, 10)?, reread(heap, 1_000)?, reread(heap, 96)?)];
     let mut table = Thermal::none();
     table
-        .make(PERIODS, &units)
+        .make(MOST_PERIODS, &units)
         .map_err(|_| anyhow!("the unit is refused"))?;
     let start = Instant::now(rt)?;
     let sum = sum_of_floors(&table);
     let micros = start.elapsed(rt)?.as_micros();
-    eprintln!(rt; "{FLOORS} floors of {PERIODS} periods: {micros} microseconds")?;
-    println!(rt; "{FLOORS} floors of {PERIODS} periods, {sum} grains together")?;
+    eprintln!(rt; "{FLOORS} floors of {MOST_PERIODS} periods: {micros} microseconds")?;
+    println!(rt; "{FLOORS} floors of {MOST_PERIODS} periods, {sum} grains together")?;
     Ok(())
 }
 

@@ -1,3 +1,4 @@
 pub mod Ahead
 pub mod Held
 pub mod Marks
+pub mod Steps

@@ -1,8 +1,7 @@
 -- The mark of a period, by its number. Assumes nothing.
-use Rattle.std.specs.Prelude.{◌≡◌, ℕ, ◌<◌, Some, None, Option, Result, MatchResult}
+use Rattle.std.specs.Prelude.{◌≡◌, ℕ, ◌<◌, Result, MatchResult}
 use Rattle.kinds.specs.declared.rule.Rule.{Rule}
 use Rattle.kinds.specs.declared.rule.Rule.TheVariants.{Mark as MarkRule}
-use Rattle.kinds.specs.Rules.{number_of}
 use Rattle.thermal.specs.declared.mark.Mark.{Mark}
 use Rattle.thermal.specs.declared.mark.Mark.TheVariants.{Stopped, Running}
 
@@ -14,7 +13,3 @@ code_of Running = 1
 -- a number as a mark, or the rule on marks where it is that of none
 abbrev pub MarkTold : ℕ → Result Mark Rule → Type 0
 MarkTold n r = MatchResult r (λ mark. code_of mark ≡ n) (λ e. (e ≡ MarkRule) × (1 < n))
-
--- a period's mark where it breaks no rule, or else the first rule that it breaks
-abbrev pub PeriodTold : Option ℕ → ℕ → Result Mark Rule → Type 0
-PeriodTold broken n r = MatchResult r (λ mark. (broken ≡ None) × (code_of mark ≡ n)) (λ rule. broken ≡ Some (number_of rule))

@@ -3,13 +3,16 @@ ghost use Rattle.thermal.specs.Marks.{MarkTold};
 
 use kinds::{RUNNING, Rule};
 
+// As RUNNING is the mark of a period in which a row runs.
+const STOPPED: u8 = 0;
+
 #[derive(Clone, Copy, PartialEq, Eq, Debug)]
 pub enum Mark {
     Stopped,
     Running,
 }
 
-// 0 or 1, as a plan tells it.
+// One of the two numbers, as a plan tells it.
 impl TryFrom<u8> for Mark {
     type Error = Rule;
 
@@ -17,7 +20,7 @@ impl TryFrom<u8> for Mark {
 
     fn try_from(mark: u8) -> Result<Mark, Rule> {
         match mark {
-            0 => Ok(Mark::Stopped),
+            STOPPED => Ok(Mark::Stopped),
             RUNNING => Ok(Mark::Running),
             _ => Err(Rule::Mark),
         }

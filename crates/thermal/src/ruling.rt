@@ -7,9 +7,9 @@ ghost use Rattle.market.specs.Scans.{Within, in_test};
 ghost use Rattle.market.specs.Fleet.{schedule_of};
 ghost use Rattle.kinds.specs.Curves.{lowest, highest, running_cost};
 ghost use Rattle.kinds.specs.Rules.{broken_by};
-ghost use Rattle.kinds.specs.Thermal.{rise_allowance, fall_allowance, rule_10, rule_11, rule_12, rule_13, rule_14, rule_15, asked, first_broken, UnitMade, yuan, running, starts, period_cost, rule, cost_in};
+ghost use Rattle.kinds.specs.Thermal.{rise_allowance, fall_allowance, rule_10, rule_11, rule_12, rule_13, rule_14, rule_15, UnitMade, yuan, running, starts, period_cost, rule, cost_in};
 ghost use Rattle.kinds.specs.Verdicts.{Judged};
-ghost use Rattle.thermal.specs.Marks.{code_of, PeriodTold};
+ghost use Rattle.thermal.specs.Marks.{code_of};
 
 use crate::mark::Mark;
 use kinds::{Curve, Rule, ThermalUnit};
@@ -51,17 +51,30 @@ struct State {
     ghost small: { Within 20000 output.0 },
 }
 
-impl State {
-    // What a period of this mark and output leaves to the next.
-    fn after(self, mark: Mark, output: Tenths) -> State
-        requires lasted { self.lasted + 1 < 2 ^ 64 }
-        requires output { Within 20000 output.0 }
-        ensures mark { result.mark ≡ mark }
-        ensures lasted { result.lasted ≡ (if nat_eq (code_of mark) (code_of self.mark) then self.lasted + 1 else 1) }
-        ensures output { result.output.0 ≡ output.0 }
+// A period whose mark and output fit each other, with what went before it.
+#[derive(Clone, Copy)]
+struct Step {
+    pub before: State,
+    pub mark: Mark,
+    pub output: Tenths,
+    ghost small: { Within 20000 output.0 },
+}
+
+impl Step {
+    // What it leaves to the next.
+    fn after(self) -> State
+        requires { self.before.lasted + 1 < 2 ^ 64 }
+        ensures mark { result.mark ≡ self.mark }
+        ensures lasted { result.lasted ≡ (if nat_eq (code_of self.mark) (code_of self.before.mark) then self.before.lasted + 1 else 1) }
+        ensures output { result.output.0 ≡ self.output.0 }
     {
-        let lasted = if mark == self.mark {
-            self.lasted + 1
+        let Step {
+            before,
+            mark,
+            output,
+        } = self;
+        let lasted = if mark == before.mark {
+            before.lasted + 1
         } else {
             1
         };
@@ -88,6 +101,8 @@ impl From<&Unit<'_>> for State {
 }
 
 impl Unit<'_> {
+    ghost use Rattle.thermal.specs.Steps.{later_broken, StepTold, PeriodTold};
+
     fn curve(&self) -> Curve
         ensures { result.numbers ≡ self.now.record.now.curve }
     {
@@ -96,27 +111,29 @@ impl Unit<'_> {
         }
     }
 
-    // Whether the unit goes on, or stops after at least its least running time.
-    fn stop_fits(&self, before: State, mark: Mark) -> bool
-        ensures { result ≡ rule_12 self.now.record.now (code_of before.mark) before.lasted (code_of mark) }
+    // Whether the unit goes on, or stops after at least its least running time. Stops and starts apart: one function for both would take the two
+    // marks and the least time as arguments, and each says no more than those.
+    fn stop_fits(&self, step: Step) -> bool
+        ensures { result ≡ rule_12 self.now.record.now (code_of step.before.mark) step.before.lasted (code_of step.mark) }
     {
-        match (before.mark, mark) {
-            (Mark::Running, Mark::Stopped) => self.record.least_running <= before.lasted,
+        match (step.before.mark, step.mark) {
+            (Mark::Running, Mark::Stopped) => self.record.least_running <= step.before.lasted,
             _ => true,
         }
     }
 
     // Whether the unit goes on, or starts after at least its least stopped time.
-    fn start_fits(&self, before: State, mark: Mark) -> bool
-        ensures { result ≡ rule_13 self.now.record.now (code_of before.mark) before.lasted (code_of mark) }
+    fn start_fits(&self, step: Step) -> bool
+        ensures { result ≡ rule_13 self.now.record.now (code_of step.before.mark) step.before.lasted (code_of step.mark) }
     {
-        match (before.mark, mark) {
-            (Mark::Stopped, Mark::Running) => self.record.least_stopped <= before.lasted,
+        match (step.before.mark, step.mark) {
+            (Mark::Stopped, Mark::Running) => self.record.least_stopped <= step.before.lasted,
             _ => true,
         }
     }
 
-    // The most that the output may rise from a period of one mark to a period of the other.
+    // The most that the output may rise from a period of one mark to a period of the other. Rises and falls apart: a start
+    // bounds the rise and a stop the fall, so the two have no arm in common.
     fn rise_allowance(&self, before: Mark, mark: Mark) -> Tenths
         ensures { result.0 ≡ rise_allowance self.now.record.now (code_of before) (code_of mark) }
     {
@@ -139,50 +156,61 @@ impl Unit<'_> {
     }
 
     // Whether the output rises by at most the rise allowance.
-    fn rise_fits(&self, before: State, mark: Mark, output: Tenths) -> bool
-        requires { Within 20000 output.0 }
-        ensures { result ≡ rule_14 self.now.record.now (code_of before.mark) (code_of mark) before.output.0 output.0 }
+    fn rise_fits(&self, step: Step) -> bool
+        ensures { result ≡ rule_14 self.now.record.now (code_of step.before.mark) (code_of step.mark) step.before.output.0 step.output.0 }
     {
-        output - before.output <= self.rise_allowance(before.mark, mark)
+        step.output - step.before.output <= self.rise_allowance(step.before.mark, step.mark)
     }
 
     // Whether the output falls by at most the fall allowance.
-    fn fall_fits(&self, before: State, mark: Mark, output: Tenths) -> bool
-        requires { Within 20000 output.0 }
-        ensures { result ≡ rule_15 self.now.record.now (code_of before.mark) (code_of mark) before.output.0 output.0 }
+    fn fall_fits(&self, step: Step) -> bool
+        ensures { result ≡ rule_15 self.now.record.now (code_of step.before.mark) (code_of step.mark) step.before.output.0 step.output.0 }
     {
-        before.output - output <= self.fall_allowance(before.mark, mark)
+        step.before.output - step.output <= self.fall_allowance(step.before.mark, step.mark)
     }
 
-    // The first rule that a period of this mark and output breaks, if any.
-    fn kept(&self, before: State, mark: Mark, output: Tenths) -> Result<(), Rule>
-        ensures { broken_by result ≡ asked 11 (rule_11 self.now.record.now (code_of mark) output.0) (asked 12 (rule_12 self.now.record.now (code_of before.mark) before.lasted (code_of mark)) (asked 13 (rule_13 self.now.record.now (code_of before.mark) before.lasted (code_of mark)) (asked 14 (rule_14 self.now.record.now (code_of before.mark) (code_of mark) before.output.0 output.0) (asked 15 (rule_15 self.now.record.now (code_of before.mark) (code_of mark) before.output.0 output.0) None)))) }
+    // A period after this state, or the first of the rules on its mark and output that it breaks. These two come first, so that the others can
+    // take a period whose output is known to be small.
+    fn step(&self, before: State, mark: u8, output: Tenths) -> Result<Step, Rule>
+        ensures { StepTold self.now.record.now before mark output result }
     {
+        let mark = Mark::try_from(mark)?;
         if !output_fits(self.record, mark, output) {
             return Err(Rule::Output);
         }
-        if !self.stop_fits(before, mark) {
+        Ok(Step {
+            before,
+            mark,
+            output,
+        })
+    }
+
+    // The first of the other rules that it breaks, if any.
+    fn kept(&self, step: Step) -> Result<(), Rule>
+        ensures { broken_by result ≡ later_broken self.now.record.now step }
+    {
+        if !self.stop_fits(step) {
             return Err(Rule::RunningTime);
         }
-        if !self.start_fits(before, mark) {
+        if !self.start_fits(step) {
             return Err(Rule::StoppedTime);
         }
-        if !self.rise_fits(before, mark, output) {
+        if !self.rise_fits(step) {
             return Err(Rule::Rise);
         }
-        if !self.fall_fits(before, mark, output) {
+        if !self.fall_fits(step) {
             return Err(Rule::Fall);
         }
         Ok(())
     }
 
-    // The mark of a period that breaks no rule, or the first rule that it breaks.
-    fn asked(&self, before: State, mark: u8, output: Tenths) -> Result<Mark, Rule>
-        ensures { PeriodTold (first_broken self.now.record.now (code_of before.mark) before.lasted before.output.0 mark output.0) mark result }
+    // A period that breaks no rule, or the first rule that it breaks.
+    fn asked(&self, before: State, mark: u8, output: Tenths) -> Result<Step, Rule>
+        ensures { PeriodTold self.now.record.now before mark output result }
     {
-        let mark = Mark::try_from(mark)?;
-        self.kept(before, mark, output)?;
-        Ok(mark)
+        let step = self.step(before, mark, output)?;
+        self.kept(step)?;
+        Ok(step)
     }
 
     // The running cost and the no_load cost of a running period.
@@ -208,13 +236,14 @@ impl Unit<'_> {
     }
 
     // What a period costs.
-    fn period_cost(&self, before: Mark, mark: Mark, output: Tenths) -> Grains
-        ensures { result.0 ≡ period_cost self.now.record.now (code_of before) (code_of mark) output.0 }
+    fn period_cost(&self, step: Step) -> Grains
+        ensures { result.0 ≡ period_cost self.now.record.now (code_of step.before.mark) (code_of step.mark) step.output.0 }
     {
-        self.running_part(mark, output) + self.start_part(before, mark)
+        self.running_part(step.mark, step.output) + self.start_part(step.before.mark, step.mark)
     }
 
-    // The verdict, in one pass over the periods with the state before each.
+    // The verdict, in one pass over the periods with the state before each. A pass of its own: what a period may be hangs on the state that the
+    // one before leaves, where a row that always runs has none.
     fn judged(&self, schedule: &Schedule) -> Result<Grains, Broken>
         requires { (length schedule.now.marks.now ≡ length schedule.now.outputs.now) × (length schedule.now.marks.now ≤ 96) }
         ensures { Judged (rule self.now.record.now (schedule_of schedule.now)) (cost_in self.now.record.now (schedule_of schedule.now)) (length schedule.now.marks.now) result }
@@ -222,12 +251,11 @@ impl Unit<'_> {
         let mut before = State::from(self);
         let mut cost = Grains(0);
         for (period, (mark, output)) in schedule.marks.iter().zip(schedule.outputs).enumerate() {
-            let output = Tenths(*output);
-            let mark = self
-                .asked(before, *mark, output)
+            let step = self
+                .asked(before, *mark, Tenths(*output))
                 .map_err(|rule| rule.in_period(period + 1))?;
-            cost = cost + self.period_cost(before.mark, mark, output);
-            before = before.after(mark, output);
+            cost = cost + self.period_cost(step);
+            before = step.after();
         }
         Ok(cost)
     }

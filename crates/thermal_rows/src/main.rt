@@ -33,7 +33,7 @@ impl<T: Drop> From<AllocFailed<T>> for Unread {
     }
 }
 
-// A unit with a schedule and with prices, each a cell for each period.
+// A unit with a schedule and with prices, each a cell for each period. Lists of their own, since a schedule and prices are lent as flat lists.
 #[derive(Drop)]
 struct Row {
     pub unit: ThermalUnit,

@@ -3,11 +3,12 @@
 // Tables, verdicts and floors of thermal units worked out by hand.
 #[cfg(test)]
 mod tests {
-    use kinds::{CurveNumbers, TableFault, ThermalUnit};
+    use kinds::{CurveNumbers, RUNNING, TableFault, ThermalUnit};
     use market::{Broken, Fault, Fleet, RowPrices, Schedule};
     use measures::Grains;
     use thermal::Thermal;
 
+    // Faults by number and place: the numbers are what is tested.
     #[derive(Clone, Copy, PartialEq, Eq, Debug)]
     enum Answer {
         Made,
@@ -56,7 +57,7 @@ mod tests {
         ramp_down: 150,
         start_limit: 200,
         stop_limit: 250,
-        mark: 1,
+        mark: RUNNING,
         lasted: 1,
         output: 300,
     };

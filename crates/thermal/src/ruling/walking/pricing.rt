@@ -47,14 +47,6 @@ fn lead(prices: &[i32], period: usize) -> Fen
     Fen(prices[period]) - next(prices, period)
 }
 
-// The period from which a mark that begins in this one may change again, or the end of the day.
-fn free_from(period: usize, time: usize, periods: usize) -> usize
-    requires { period + time < 2 ^ 64 }
-    ensures { result ≡ min (period + time) periods }
-{
-    (period + time).min(periods)
-}
-
 // A unit at prices within their limits, in each period of a day.
 #[derive(Clone, Copy)]
 struct Priced<'a> {
@@ -75,6 +67,14 @@ struct PricedPeriod<'a> {
 }
 
 impl PricedPeriod<'_> {
+    // The period from which a mark that must last so long from this one on may change again, or the end of the day.
+    fn free_from(&self, time: usize) -> usize
+        requires { self.now.period + time < 2 ^ 64 }
+        ensures { result ≡ min (self.now.period + time) (length self.now.day.prices.net.now) }
+    {
+        (self.period + time).min(self.day.periods())
+    }
+
     fn rise(&self) -> Fen
         ensures { result.0 ≡ at self.now.day.prices.rise.now self.now.period }
     {
@@ -155,17 +155,27 @@ impl Priced<'_> {
         self.prices.net.len()
     }
 
+    // The first period. There is one in each day.
+    fn first(&self) -> PricedPeriod<'_>
+        ensures day { result.day ≡ self.now }
+        ensures period { result.period ≡ 0 }
+    {
+        PricedPeriod {
+            day: *self,
+            period: 0,
+        }
+    }
+
     // The walk back, from after the last period to the first. It goes by index, since a step reads cells further on.
     fn walk_back(&self) -> [Ahead; CELLS]
         ensures { Walked self.now.unit.record.now (row_prices_of self.now.prices) (length self.now.prices.net.now) 0 (ahead_of result) }
     {
-        let periods = self.periods();
         let mut walk = ended();
-        for period in (0..periods).rev() {
-            let may_stop = free_from(period, self.unit.record.least_running, periods);
-            let may_start = free_from(period, self.unit.record.least_stopped, periods);
-            let weights = PricedPeriod { day: *self, period }.weights();
-            walk[period] = walk[period + 1].before(weights, walk[may_stop], walk[may_start]);
+        for period in (0..self.periods()).rev() {
+            let now = PricedPeriod { day: *self, period };
+            let may_stop = now.free_from(self.unit.record.least_running);
+            let may_start = now.free_from(self.unit.record.least_stopped);
+            walk[period] = walk[period + 1].before(now.weights(), walk[may_stop], walk[may_start]);
         }
         walk
     }
@@ -179,11 +189,11 @@ impl Priced<'_> {
         match mark {
             Mark::Running => {
                 let owed = self.unit.record.least_running.saturating_sub(lasted);
-                walk[0].running_to(walk[owed.min(self.periods())])
+                walk[0].running_to(walk[self.first().free_from(owed)])
             }
             Mark::Stopped => {
                 let owed = self.unit.record.least_stopped.saturating_sub(lasted);
-                walk[owed.min(self.periods())].off
+                walk[self.first().free_from(owed)].off
             }
         }
     }
@@ -193,14 +203,11 @@ impl Priced<'_> {
         ensures told { result.0 ≡ pos 1000 *ℤ (at self.now.prices.fall.now 0 -ℤ at self.now.prices.rise.now 0) *ℤ self.now.unit.record.now.output }
         ensures small { Within 20000000000000 result.0 }
     {
-        let first = PricedPeriod {
-            day: *self,
-            period: 0,
-        };
+        let first = self.first();
         (first.fall() - first.rise()).net() * State::from(&self.unit).output
     }
 
-    // Both together.
+    // The least weight of the day and what the output before it weighs.
     fn weight_of_day(&self, walk: &[Ahead; CELLS]) -> Grains
         ensures { result.0 ≡ from_before self.now.unit.record.now (length self.now.prices.net.now) (ahead_of walk.now) +ℤ pos 1000 *ℤ (at self.now.prices.fall.now 0 -ℤ at self.now.prices.rise.now 0) *ℤ self.now.unit.record.now.output }
     {

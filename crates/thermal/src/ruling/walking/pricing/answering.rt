@@ -43,6 +43,8 @@ impl Thermal<'_> {
     }
 }
 
+// An impl of its own: one for every table would be an impl for any type, which Rust lets only the trait's own crate write; and what each shows
+// is its own proof.
 impl Fleet for Thermal<'_> {
     ghost periods = { λ f. (units (units_of f).periods (units_of f).units).periods };
 

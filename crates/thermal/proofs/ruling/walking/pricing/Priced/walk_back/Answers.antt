@@ -28,7 +28,7 @@ loop-period-init c =
     let few = p.day.1 in
     let none : ahead_of c.ended-walk.result n ≡ nothing = ap (λ xs. get_or xs n nothing) c.ended-walk.ensures.nothing ∙ get_or-replicate 97 n nothing nothing (omega arith) in
     let w : Walked p.unit.record.now (row_prices_of p.prices) n n (ahead_of c.ended-walk.result) = walked_end _ _ _ _ (ap (λ a. a.run) none) (ap (λ a. a.on) none) (ap (λ a. a.off) none) in
-    (subst (λ k. Walked p.unit.record.now (row_prices_of p.prices) n k (ahead_of c.ended-walk.result)) (sym c.periods-periods.ensures) w, c.ended-walk.ensures.long)
+    (subst (λ k. Walked p.unit.record.now (row_prices_of p.prices) n k (ahead_of c.ended-walk.result)) (sym c.periods-period.ensures) w, c.ended-walk.ensures.long)
 
 module _ (c : After-index-walk-may_start) where
   -- the period, and what is told of it
@@ -38,7 +38,7 @@ module _ (c : After-index-walk-may_start) where
   abbrev told : Amounts
   told =
       let walk = c.loop-period.walk in
-      step c.weights-weights.result (get_or walk (now + 1) c.index-walk-period.result) (get_or walk c.free_from-may_stop.result c.index-walk-may_stop.result) (get_or walk c.free_from-may_start.result c.index-walk-may_start.result)
+      step c.weights.result (get_or walk (now + 1) c.index-walk-period.result) (get_or walk c.free_from-may_stop.result c.index-walk-may_stop.result) (get_or walk c.free_from-may_start.result c.index-walk-may_start.result)
 
   -- the walk so far, from the period after this one on
   later : Walked c.args.self.now.unit.record.now (row_prices_of c.args.self.now.prices) (length c.args.self.now.prices.net.now) (now + 1) (ahead_of c.loop-period.walk)
@@ -56,10 +56,10 @@ module _ (c : After-index-walk-may_start) where
       let few = p.day.1 in
       let long = c.loop-period.invariant.1 in
       let walk = c.loop-period.walk in
-      let w = c.weights-weights.ensures in
+      let w = c.weights.ensures in
       let next : amounts (get_or walk (now + 1) c.index-walk-period.result) ≡ ahead_of walk (now + 1) = read walk (now + 1) _ (omega arith) in
-      let stop : amounts (get_or walk c.free_from-may_stop.result c.index-walk-may_stop.result) ≡ ahead_of walk (min (now + u.least_running) n) = read walk c.free_from-may_stop.result _ (omega arith) ∙ ap (ahead_of walk) (c.free_from-may_stop.ensures ∙ ap (λ m. min (now + u.least_running) m) c.periods-periods.ensures) in
-      let start : amounts (get_or walk c.free_from-may_start.result c.index-walk-may_start.result) ≡ ahead_of walk (min (now + u.least_stopped) n) = read walk c.free_from-may_start.result _ (omega arith) ∙ ap (ahead_of walk) (c.free_from-may_start.ensures ∙ ap (λ m. min (now + u.least_stopped) m) c.periods-periods.ensures) in
+      let stop : amounts (get_or walk c.free_from-may_stop.result c.index-walk-may_stop.result) ≡ ahead_of walk (min (now + u.least_running) n) = read walk c.free_from-may_stop.result _ (omega arith) ∙ ap (ahead_of walk) c.free_from-may_stop.ensures in
+      let start : amounts (get_or walk c.free_from-may_start.result c.index-walk-may_start.result) ≡ ahead_of walk (min (now + u.least_stopped) n) = read walk c.free_from-may_start.result _ (omega arith) ∙ ap (ahead_of walk) c.free_from-may_start.ensures in
       walked_step u (row_prices_of p.prices) n (ahead_of walk) now (omega arith) later p.unit.made.numbers.least_running.0 p.unit.made.numbers.least_stopped.0 ahead same
       (ap (λ a. a.run) at_now ∙ (λ j. w.run j +ℤ (next j).run))
       (ap (λ a. a.on) at_now ∙ (λ j. int_min (w.run j +ℤ (next j).on) (w.stop j +ℤ (start j).off)))

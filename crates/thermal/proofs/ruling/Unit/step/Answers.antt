@@ -1,5 +1,5 @@
-use Rattle.std.proofs.Common.{◌≡◌, ℕ, ◌<◌, ℤ, Some, None, leb, ap, sym, ◌∙◌}
-use Rattle.std.proofs.lemmas.Bool.{cond-false, lt-leb}
+use Rattle.std.proofs.Common.{◌≡◌, ℕ, true, false, ◌<◌, ℤ, Some, None, leb, ap, sym, ◌∙◌, refl, rules}
+use Rattle.std.proofs.lemmas.Bool.{cond-true, cond-false, lt-leb}
 use Rattle.std.proofs.lemmas.Result.{err_from_is_err_and}
 use Rattle.kinds.specs.Rules.{number_of}
 use Rattle.kinds.specs.declared.thermal_unit.ThermalUnit.{ThermalUnit}
@@ -7,7 +7,7 @@ use Rattle.kinds.specs.Thermal.{asked, rule_11, rule_12, rule_13, rule_14, rule_
 use Rattle.thermal.specs.declared.mark.Mark.{Mark}
 use Rattle.thermal.specs.declared.mark.Mark.TheVariants.{Stopped, Running}
 use Rattle.thermal.specs.Marks.{code_of}
-use Rattle.thermal.proofs.ruling.Unit.asked.Goals as goal
+use Rattle.thermal.proofs.ruling.Unit.step.Goals as goal
 
 module _ (u : ThermalUnit) (b h : ℕ) (o : ℤ) where
   -- the rules after the first, at a mark
@@ -27,13 +27,16 @@ returns-in_err-mark c =
     let h = c.in_err-mark.ensures in
     rw (p.1, p.2) (at_none _ _ _ _ _ _ h.1 ∙ ap (λ r. Some (number_of r)) (sym h.0))
 
-pub returns-in_err-kept : goal.returns-in_err-kept
-returns-in_err-kept c =
-    let p = err_from_is_err_and c.from_residual-in_err-kept.result c.from_residual-in_err-kept.ensures.1 in
+pub returns-then-not-output_fits : goal.returns-then-not-output_fits
+returns-then-not-output_fits c =
     let m : code_of c.in_ok-mark.mark ≡ c.args.mark = c.in_ok-mark.ensures in
-    rw (p.1, p.2, ← m) (sym (c.in_err-kept.ensures ∙ at_mark _ _ _ _ _ _))
+    let u = c.args.self.now.record.now in
+    let f : rule_11 u (code_of c.in_ok-mark.mark) c.args.output.0 ≡ false = search rules in
+    rw (← m) (sym (at_mark u _ _ _ c.in_ok-mark.mark _) ∙ cond-false _ _ (Some 11) f)
 
 pub returns : goal.returns
 returns c =
     let m : code_of c.in_ok-mark.mark ≡ c.args.mark = c.in_ok-mark.ensures in
-    (rw (← m) (sym (c.in_ok-kept.ensures ∙ at_mark _ _ _ _ _ _)), m)
+    let u = c.args.self.now.record.now in
+    let f : rule_11 u (code_of c.in_ok-mark.mark) c.args.output.0 ≡ true = search rules in
+    (rw (← m) (sym (at_mark u _ _ _ c.in_ok-mark.mark _) ∙ cond-true _ _ (Some 11) f), record { before = refl; mark = m; output = refl })
