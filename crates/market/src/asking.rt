@@ -71,7 +71,7 @@ fn within<T: PartialOrd>(prices: &[T], low: &T, high: &T) -> Result<(), Broken>
 }
 
 // 19 with the first period of a price outside its limits: net prices, then prices of rises, then of falls.
-fn within_limits(prices: &RowPrices) -> Result<(), Broken>
+pub fn within_limits(prices: &RowPrices) -> Result<(), Broken>
     ensures { result ≡ unless (row_fault (row_prices_of prices.now)) tt }
 {
     within(prices.net, &-MOST_NET, &MOST_NET)?;

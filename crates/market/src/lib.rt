@@ -19,7 +19,7 @@ mod row_prices;
 mod scan;
 mod schedule;
 
-pub use asking::{prices_asked, row_asked, schedule_asked};
+pub use asking::{prices_asked, row_asked, schedule_asked, within_limits};
 pub use broken::Broken;
 pub use clearing::{bound, judge};
 pub use day::Day;
