@@ -43,8 +43,8 @@ impl<F: Fleet> Drop for Offer<'_, F> {
     }
 }
 
-// What each node draws in a period, below zero, in an array, since judging may not run out of memory. The loads of one period lie a row of the table apart, so they are walked by number; `array::from_fn`
-// was tried, and that its closure may be called at every node was not proved.
+// What each node draws in a period, below zero, in an array, since judging may not run out of memory. The loads of one period lie a row of the
+// table apart, so they are walked by number; `array::from_fn` was tried, and that its closure may be called at every node was not proved.
 fn drawn(day: &Day, period: usize) -> [i32; MOST_NODES]
     requires { period < day.now.numbers.periods }
     ensures long { length result ≡ 16 }

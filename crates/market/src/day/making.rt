@@ -113,3 +113,15 @@ impl<'a> Day<'a> {
         Ok(())
     }
 }
+
+// The same as a day of its own.
+impl<'a> TryFrom<DayNumbers<'a>> for Day<'a> {
+    type Error = DayFault;
+
+    ghost try_from_gives = { λ numbers made. MatchResult made (λ day. (numbers_of day.numbers ≡ numbers_of numbers) × Made (numbers_of numbers)) (λ e. Refused (numbers_of numbers) e) };
+
+    fn try_from(value: DayNumbers<'a>) -> Result<Day<'a>, DayFault> {
+        value.asked()?;
+        Ok(Day { numbers: value })
+    }
+}
