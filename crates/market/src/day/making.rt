@@ -108,13 +108,12 @@ impl<'a> Day<'a> {
         ensures answer { MatchResult result (λ _. Made (numbers_of numbers.entry)) (λ e. Refused (numbers_of numbers.entry) e) }
         ensures held { numbers_of self.new.numbers ≡ (if is_ok result then numbers_of numbers.entry else numbers_of self.old.numbers) }
     {
-        numbers.asked()?;
-        *self = Day { numbers };
+        *self = Day::try_from(numbers)?;
         Ok(())
     }
 }
 
-// The same as a day of its own.
+// A day of these numbers, or the first no.
 impl<'a> TryFrom<DayNumbers<'a>> for Day<'a> {
     type Error = DayFault;
 
