@@ -19,3 +19,4 @@ pub mod Alone
 pub mod PricesAlike
 pub mod Computing
 mod Labels
+mod Sums

@@ -58,8 +58,8 @@ fn listed(row: usize, size: usize, periods: usize, prices: &RowPrices) -> Result
 }
 
 // 19 with the first period of a price outside these limits.
-fn within<T: PartialOrd>(prices: &[T], low: &T, high: &T) -> Result<(), Broken>
-    ensures { result ≡ unless (fault_at (position (λ x. partial_lt T.partial_cmp x low.now || partial_gt T.partial_cmp x high.now) prices.now) None) tt }
+fn within<T: Copy + PartialOrd>(prices: &[T], low: T, high: T) -> Result<(), Broken>
+    ensures { result ≡ unless (fault_at (position (λ x. partial_lt T.partial_cmp x low || partial_gt T.partial_cmp x high) prices.now) None) tt }
 {
     match first_outside(prices, low, high) {
         Some(period) => Err(Broken {
@@ -74,9 +74,9 @@ fn within<T: PartialOrd>(prices: &[T], low: &T, high: &T) -> Result<(), Broken>
 pub fn within_limits(prices: &RowPrices) -> Result<(), Broken>
     ensures { result ≡ unless (row_fault (row_prices_of prices.now)) tt }
 {
-    within(prices.net, &-MOST_NET, &MOST_NET)?;
-    within(prices.rise, &0, &MOST_PRICE)?;
-    within(prices.fall, &0, &MOST_PRICE)
+    within(prices.net, -MOST_NET, MOST_NET)?;
+    within(prices.rise, 0, MOST_PRICE)?;
+    within(prices.fall, 0, MOST_PRICE)
 }
 
 // 8 unless the row is below the size and has prices for each period; then 19 with the period of the first that is outside its limits.

@@ -1,4 +1,6 @@
 // A plan judged: row by row, and then period by period.
+// Sums of measures are loops: std sums plain numbers, and has no lemma on sums of numbers with a sign. One over a slice is shown by a lemma of the
+// crate's own (the sum of what the nodes feed in, in judging); over zipped tables and over walks by number it was not tried.
 // A period stays a number below the day's: a struct for it would hold the day beside one number.
 ghost use Rattle.std.specs.Prelude.{◌≡◌, ℕ, ◌<◌, ◌≤◌, length, ◌*ℤ◌};
 ghost use Rattle.std.specs.Prelude.{Err, MatchResult};
@@ -41,8 +43,8 @@ impl<F: Fleet> Drop for Offer<'_, F> {
     }
 }
 
-// What each node draws in a period, below zero, in an array, since judging may not run out of memory. The loads of one period lie a row of the table
-// apart, so they are walked by number; `array::from_fn` was tried, and that its closure may be called at every node was not proved.
+// What each node draws in a period, below zero, in an array, since judging may not run out of memory. The loads of one period lie a row of the
+// table apart, so they are walked by number; `array::from_fn` was tried, and that its closure may be called at every node was not proved.
 fn drawn(day: &Day, period: usize) -> [i32; MOST_NODES]
     requires { period < day.now.numbers.periods }
     ensures long { length result ≡ 16 }
@@ -86,11 +88,7 @@ impl Injections<'_> {
     fn sum(&self) -> Tenths
         ensures { result.0 ≡ total self.now.day.now.numbers.nodes (λ k. at self.now.fed.now k) }
     {
-        let mut all = Tenths(0);
-        for power in self.fed {
-            all = all + Tenths(*power);
-        }
-        all
+        Tenths(self.fed.iter().sum())
     }
 
     // What flows over a line: whole factors, summed before anything is compared.
@@ -142,7 +140,7 @@ impl<F: Fleet> Offer<'_, F> {
         }
     }
 
-    // The rows' costs, or the first rule that a row breaks. A sum of signed amounts has no bound in a chain of iterators.
+    // The rows' costs, or the first rule that a row breaks. The first no ends the loop.
     fn rows_cost(&self) -> Result<Grains, Refusal>
         ensures judged { RowsJudged (numbers_of self.now.day.now.numbers) (meaning F.Fleet self.now.fleet.now) (plan_of self.now.plan.now) result }
         ensures small { SmallTold result }

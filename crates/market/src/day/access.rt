@@ -18,8 +18,8 @@ impl Day<'_> {
         ensures { result ≡ load_told (numbers_of self.now.numbers) node period }
     {
         let day = self.numbers;
-        (node < day.nodes && (1 <= period && period <= day.periods))
-            .then(|| Tenths(day.loads[node * day.periods + (period - 1)]))
+        let has = node < day.nodes && (1 <= period && period <= day.periods);
+        has.then(|| Tenths(day.loads[node * day.periods + (period - 1)]))
     }
 
     // The share of what is fed in at the node that flows over the line.
@@ -27,8 +27,8 @@ impl Day<'_> {
         ensures { result ≡ factor_told (numbers_of self.now.numbers) line node }
     {
         let day = self.numbers;
-        (line < day.lines && node < day.nodes)
-            .then(|| Factor(day.factors[line * day.nodes + node]))
+        let has = line < day.lines && node < day.nodes;
+        has.then(|| Factor(day.factors[line * day.nodes + node]))
     }
 
     pub fn lower(&self, line: usize) -> Option<Tenths>

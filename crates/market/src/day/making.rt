@@ -108,8 +108,19 @@ impl<'a> Day<'a> {
         ensures answer { MatchResult result (λ _. Made (numbers_of numbers.entry)) (λ e. Refused (numbers_of numbers.entry) e) }
         ensures held { numbers_of self.new.numbers ≡ (if is_ok result then numbers_of numbers.entry else numbers_of self.old.numbers) }
     {
-        numbers.asked()?;
-        *self = Day { numbers };
+        *self = Day::try_from(numbers)?;
         Ok(())
+    }
+}
+
+// A day of these numbers, or the first no.
+impl<'a> TryFrom<DayNumbers<'a>> for Day<'a> {
+    type Error = DayFault;
+
+    ghost try_from_gives = { λ numbers made. MatchResult made (λ day. (numbers_of day.numbers ≡ numbers_of numbers) × Made (numbers_of numbers)) (λ e. Refused (numbers_of numbers) e) };
+
+    fn try_from(value: DayNumbers<'a>) -> Result<Day<'a>, DayFault> {
+        value.asked()?;
+        Ok(Day { numbers: value })
     }
 }
