@@ -36,7 +36,8 @@ fn magnitude(digits: &[u8]) -> Option<u32>
     }
 }
 
-// A number behind a minus: zero is not written so. `as` is exact below 100,000,000, here and in `parse`; `try_from` would have a case that never comes.
+// A number behind a minus: zero is not written so.
+// `as` is exact below 100,000,000, here and in `parse`; `try_from` would have a case that never comes.
 fn negated(value: u32) -> Option<i32>
     requires { value < 100000000 }
     ensures { result ≡ below_zero (Some value) }
