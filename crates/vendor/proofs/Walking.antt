@@ -97,6 +97,9 @@ module _ (file : List ℕ) (at : ℕ) where
         ap lines (sym same) ∙ lines_cut left n within before end
         ∙ ap (λ bs. line ∷ lines bs) (ap (drop (suc n)) same ∙ drop-drop (suc n) at file ∙ ap (λ k. drop k file) place)
 
+    pub rows_on : lines (drop (at + (n + 1)) file) ≡ tail (lines (drop at file))
+    rows_on = sym (ap tail row_here)
+
     handed_on : (r : Row) → fields_of r ≡ pieces 59 line.bytes → HandedOn (lines (drop at file)) (Ok (Some r))
     handed_on r is =
         let cut = (pieces_between 59 line.bytes).0 in

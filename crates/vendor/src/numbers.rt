@@ -8,7 +8,7 @@ const MOST_DIGITS: usize = 8;
 
 // The number that digits write, or `None` where a byte is no digit. A loop: under `try_fold` (tried) the proof that no step overflows was not found,
 // and `from_utf8` with `parse` takes a plus too, and would have cases that never come.
-#[tactic(auto, using(crate::proofs::Decimals::short, crate::proofs::Decimals::one_more, crate::proofs::Decimals::no_digits_at, crate::proofs::Decimals::is_digit))]
+#[tactic(auto, using(crate::proofs::Decimals::short, crate::proofs::Decimals::one_more, crate::proofs::Decimals::no_digits_at, crate::proofs::Decimals::is_digit, crate::proofs::Decimals::whole_read, crate::proofs::Decimals::whole_small))]
 fn value(digits: &[u8]) -> Option<u32>
     requires { length digits.now ≤ 8 }
     ensures value { result ≡ cond (all_ascii_digits digits.now) (Some (digits_value 10 digits.now)) None }
@@ -36,7 +36,8 @@ fn magnitude(digits: &[u8]) -> Option<u32>
     }
 }
 
-// A number behind a minus: zero is not written so. `as` is exact below 100,000,000, here and in `parse`; `try_from` would have a case that never comes.
+// A number behind a minus: zero is not written so.
+// `as` is exact below 100,000,000, here and in `parse`; `try_from` would have a case that never comes.
 fn negated(value: u32) -> Option<i32>
     requires { value < 100000000 }
     ensures { result ≡ below_zero (Some value) }

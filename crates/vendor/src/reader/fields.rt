@@ -18,7 +18,8 @@ pub(super) fn find(bytes: &[u8], byte: u8) -> Option<usize>
     bytes.iter().position(|b| *b == byte)
 }
 
-// What is left of a row: `None` past its last field.
+// What is left of a row: `None` past its last field. An iterator of its own: the type of std's `split` names its closure, which `field` and `kind`
+// would have to take as a parameter.
 #[derive(Drop)]
 struct Fields<'a> {
     rest: Option<&'a [u8]>,

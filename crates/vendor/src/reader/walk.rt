@@ -23,6 +23,7 @@ impl<'a> Reader<'a> {
     }
 
     // The next row as one of the four kinds, or `None` past the last; a faulty row is passed too.
+    #[tactic(auto, using(crate::proofs::Walking::rows_on))]
     pub fn next_row(&mut self) -> Result<Option<Row<'a>>, RowFault>
         ensures answer { HandedOn (rows_ahead self.old) result }
         ensures rows { rows_ahead self.new ≡ tail (rows_ahead self.old) }

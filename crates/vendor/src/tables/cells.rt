@@ -20,8 +20,8 @@ pub struct Cells<const ROW_CELLS: usize, const LINE_CELLS: usize, const PERIODS:
     pub fall: [i32; ROW_CELLS],
 }
 
-// A file read into seven slices. Tried: where `read` below makes the struct itself, over `&mut self.marks` and so on or by `as_mut_slice`, no proof was
-// found of what the arrays end as, since their lengths are parameters; a call that takes each as a slice tells it.
+// A file read into seven slices. Tried: where `read` below makes the struct itself, over `&mut self.marks` and so on or by `as_mut_slice`, no proof
+// was found of what the arrays end as, since their lengths are parameters; a call that takes each as a slice tells it.
 fn read_into(
     file: &[u8],
     shape: &Shape,

@@ -9,8 +9,8 @@ use crate::reader::Reader;
 use crate::rows::Shape;
 use crate::tables::{Counts, Tables};
 
-// Rows are counted here, since only `check` names one; the reader asks a shape at each entry and is no iterator. The shape goes along with the file:
-// rows as they stand ask none, so a `Reader` holds none.
+// Rows are counted here, since only `check` names one. An iterator of reader and shape under `zip(1..)` was tried and left: it needs a struct and an
+// impl more, and an invariant over the state of both. The shape goes along with the file: rows as they stand ask none, so a `Reader` holds none.
 // The rows of a file without fault, counted by letter, or the fault of its first faulty row.
 fn check(file: &[u8], shape: &Shape) -> Result<Counts, FileFault>
     ensures { result ≡ rows_answer shape.now file.now }

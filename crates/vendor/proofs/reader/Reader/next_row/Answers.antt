@@ -29,6 +29,3 @@ cut c =
 
 pub returns-clause-answer : goal.returns-clause-answer
 returns-clause-answer c = (cut c).answer
-
-pub returns-clause-rows : goal.returns-clause-rows
-returns-clause-rows c = (cut c).rows
