@@ -2,7 +2,7 @@
 mod making;
 mod walking;
 
-ghost use Rattle.std.specs.Prelude.{◌≡◌, ◌+◌, ◌^◌, ◌<◌, ◌≤◌, length, pos, ◌+ℤ◌, None, if◌then◌else◌, nat_eq};
+ghost use Rattle.std.specs.Prelude.{◌≡◌, ◌+◌, ◌-◌, ◌^◌, ◌<◌, ◌≤◌, length, pos, ◌+ℤ◌, None, if◌then◌else◌, nat_eq};
 ghost use Rattle.market.specs.Scans.{Within, in_test};
 ghost use Rattle.market.specs.Fleet.{schedule_of};
 ghost use Rattle.kinds.specs.Curves.{lowest, highest, running_cost};
@@ -49,6 +49,15 @@ struct State {
     pub lasted: usize,
     pub output: Tenths,
     ghost small: { Within 20000 output.0 },
+}
+
+impl State {
+    // How long the mark goes on yet, where it must last so long.
+    fn owed(self, time: usize) -> usize
+        ensures { result ≡ time - self.lasted }
+    {
+        time.saturating_sub(self.lasted)
+    }
 }
 
 // A period whose mark and output fit each other, with what went before it.
@@ -171,6 +180,7 @@ impl Unit<'_> {
 
     // A period after this state, or the first of the rules on its mark and output that it breaks. These two come first, so that the others can
     // take a period whose output is known to be small.
+    #[tactic(auto, using(crate::proofs::Steps::told, crate::proofs::Steps::told_output))]
     fn step(&self, before: State, mark: u8, output: Tenths) -> Result<Step, Rule>
         ensures { StepTold self.now.record.now before mark output result }
     {

@@ -185,14 +185,14 @@ impl Priced<'_> {
         ensures told { result.0 ≡ from_before self.now.unit.record.now (length self.now.prices.net.now) (ahead_of walk.now) }
         ensures small { Within 130291200000000000 result.0 }
     {
-        let State { mark, lasted, .. } = State::from(&self.unit);
-        match mark {
+        let before = State::from(&self.unit);
+        match before.mark {
             Mark::Running => {
-                let owed = self.unit.record.least_running.saturating_sub(lasted);
+                let owed = before.owed(self.unit.record.least_running);
                 walk[0].running_to(walk[self.first().free_from(owed)])
             }
             Mark::Stopped => {
-                let owed = self.unit.record.least_stopped.saturating_sub(lasted);
+                let owed = before.owed(self.unit.record.least_stopped);
                 walk[self.first().free_from(owed)].off
             }
         }
