@@ -1,6 +1,4 @@
 // A plan judged: row by row, and then period by period.
-// Sums of measures are loops: std sums plain numbers, and has no lemma on sums of numbers with a sign. One over a slice is shown by a lemma of the
-// crate's own (the sum of what the nodes feed in, in judging); over zipped tables and over walks by number it was not tried.
 // A period stays a number below the day's: a struct for it would hold the day beside one number.
 ghost use Rattle.std.specs.Prelude.{◌≡◌, ℕ, ◌<◌, ◌≤◌, length, ◌*ℤ◌};
 ghost use Rattle.std.specs.Prelude.{Err, MatchResult};

@@ -1,6 +1,4 @@
 // Net prices: what a tenth of a megawatt fed in at a node is worth in a period. Periods count from 0 here.
-// Sums of measures are loops: std sums plain numbers, and has no lemma on sums of numbers with a sign. One over a slice is shown by a lemma of the
-// crate's own (the sum of what the nodes feed in, in judging); over zipped tables and over walks by number it was not tried.
 // A period stays a number below the day's: a struct for it would hold the day beside one number.
 // The walks go by number: tables with different steps would be zipped, which is no plainer.
 mod bounding;

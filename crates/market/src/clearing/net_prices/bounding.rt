@@ -1,5 +1,4 @@
 // A price set bounded: its questions in order, and its floor.
-// The sum of the rows' floors is a loop: std sums plain numbers, and has no lemma on sums of numbers with a sign.
 ghost use Rattle.std.specs.Prelude.{◌≡◌, ◌<◌, ◌≤◌, Ok, Err, MatchResult};
 ghost use Rattle.market.specs.Bounding.{prices_of, OverTold, RangesTold, Ready, Told, Netted, RowsFloored};
 ghost use Rattle.market.specs.Clearing.{row_prices};
