@@ -25,7 +25,7 @@ fn first_no(periods: usize, nodes: &[usize], outputs: &[i32]) -> Result<(), Tabl
 }
 
 impl<'a> Fixed<'a> {
-    // A table of one period and no row. A place for `make` to fill.
+    // A table of one period and no row. A place for `make` to fill. Both stand for each kind: one for all would need one struct for all tables.
     pub fn none() -> Fixed<'a>
         ensures { rows_of result ≡ no_rows }
     {

@@ -38,7 +38,7 @@ fn no_row(periods: usize, stations: &[Station], available: &[i32]) -> Result<(),
     Ok(())
 }
 
-// The first question that has the answer no.
+// The first question that has the answer no. The three parts go along by themselves: together they are the table, which is not one yet.
 fn first_no(periods: usize, stations: &[Station], available: &[i32]) -> Result<(), TableFault>
     ensures { MatchResult result (λ _. Fits (table periods stations.now available.now)) (λ e. Refused (table periods stations.now available.now) e) }
 {
@@ -48,7 +48,7 @@ fn first_no(periods: usize, stations: &[Station], available: &[i32]) -> Result<(
 }
 
 impl<'a> Renewables<'a> {
-    // A table of one period and no row. A place for `make` to fill.
+    // A table of one period and no row. A place for `make` to fill. Both stand for each kind: one for all would need one struct for all tables.
     pub fn none() -> Renewables<'a>
         ensures { stations_of result ≡ no_rows }
     {

@@ -138,7 +138,7 @@ impl<F: Fleet> Offer<'_, F> {
         }
     }
 
-    // The rows' costs, or the first rule that a row breaks. The first no ends the loop.
+    // The rows' costs, or the first rule that a row breaks. A fleet is asked by a row's number, and the first no ends the loop.
     fn rows_cost(&self) -> Result<Grains, Refusal>
         ensures judged { RowsJudged (numbers_of self.now.day.now.numbers) (meaning F.Fleet self.now.fleet.now) (plan_of self.now.plan.now) result }
         ensures small { SmallTold result }
@@ -190,7 +190,7 @@ impl<F: Fleet> Offer<'_, F> {
         fed.lines_asked(period)
     }
 
-    // What a lawful plan costs, or the first rule that is broken: the rows', and then the market's period by period.
+    // What a lawful plan costs, or the first rule that is broken: the rows', and then the market's period by period, asked by number in several tables.
     fn judged(&self) -> Result<Grains, Refusal>
         ensures answered { Answered (numbers_of self.now.day.now.numbers) (meaning F.Fleet self.now.fleet.now) (plan_of self.now.plan.now) result }
         ensures small { SmallTold result }
@@ -210,7 +210,8 @@ impl<F: Fleet> Offer<'_, F> {
     }
 }
 
-// The plan as one that can be judged, or the first no before the rules: the fleet does not fit the day, or the plan has not its lengths.
+// The plan as one that can be judged, or the first no before the rules: the fleet does not fit the day, or the plan has not its lengths. What is
+// handed in goes along as it comes: together, and asked, they are the offer.
 fn offered<'a, F: Fleet>(
     day: &'a Day<'a>,
     fleet: &'a F,

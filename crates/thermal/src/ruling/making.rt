@@ -89,7 +89,7 @@ fn first_no(periods: usize, units: &[ThermalUnit]) -> Result<(), TableFault>
 }
 
 impl<'a> Thermal<'a> {
-    // A table of one period and no row. A place for `make` to fill.
+    // A table of one period and no row. A place for `make` to fill. Both stand for each kind: one for all would need one struct for all tables.
     pub fn none() -> Thermal<'a>
         ensures { units_of result ≡ no_rows }
     {

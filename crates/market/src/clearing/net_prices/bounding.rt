@@ -108,7 +108,7 @@ impl<F: Fleet> Offer<'_, F> {
 }
 
 // The price set as one that can be bounded, or the first no: the fleet does not fit the day, or a list has not its length, or a price is out of
-// its limits.
+// its limits. What is handed in goes along as it comes: together, and asked, they are the offer.
 fn offered<'a, F: Fleet>(
     day: &'a Day<'a>,
     fleet: &'a F,
