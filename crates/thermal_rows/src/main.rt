@@ -2,7 +2,7 @@
 // and the row's floor at the prices. The rows that the run compares come from an independent implementation of the same rules.
 #![tactic(auto)]
 
-use kinds::{CurveNumbers, MOST_PERIODS, TableFault, ThermalUnit};
+use kinds::{CurveNumbers, MOST_PERIODS, MOST_SEGMENTS, TableFault, ThermalUnit};
 use market::{Broken, Fault, Fleet, RowPrices, Schedule};
 use measures::Grains;
 use std::alloc::{AllocError, AllocFailed, Global};
@@ -10,9 +10,6 @@ use std::io::{BufRead, BufReader};
 use std::str::{FromStr, Split};
 use std::{array, fmt, io};
 use thermal::Thermal;
-
-// The longest curve, whose numbers a record holds in arrays.
-const SEGMENTS: usize = 10;
 
 // Why a line gives no row.
 #[derive(Drop)]
@@ -82,7 +79,7 @@ fn padded<const N: usize>(numbers: &[i32]) -> [i32; N] {
 // `m;b0..bm;c1..cm`
 fn curve(heap: Global, fields: &mut Split<'_, char>) -> Result<CurveNumbers, Unread> {
     let segments: usize = number(fields)?;
-    if segments > SEGMENTS {
+    if segments > MOST_SEGMENTS {
         return Err(Unread::Malformed);
     }
     let ends = list(heap, fields, segments + 1)?;

@@ -1,30 +1,22 @@
-use Rattle.std.proofs.Common.{◌≡◌, ℕ, Bool, true, false, not, cond, ltb, List, length, Some, None, Option, MatchOption, refl, sym, arith}
-use Rattle.std.specs.List.{position, position_or_len}
-use Rattle.std.proofs.lemmas.Bool.{not-true, not-false, both_ways, ltb-false}
-use Rattle.std.proofs.lemmas.List.Quantifiers.{position-Some}
-use Rattle.std.proofs.lemmas.List.Sums.{prefix_len_passes}
+use Rattle.std.proofs.Common.{◌≡◌, ℕ, not, List, length, Some, None, Option, MatchOption}
+use Rattle.std.specs.List.{position}
 use Rattle.std.proofs.lemmas.Result.{err_from_is_err_and, MatchResult-at_ok, MatchResult-at_err}
 use Rattle.kinds.specs.declared.table_fault.TableFault.{TableFault}
 use Rattle.kinds.specs.declared.table_fault.TableFault.TheVariants.{Periods, Sizes, Curve, Row, Cell}
 use Rattle.kinds.specs.declared.thermal_unit.ThermalUnit.{ThermalUnit}
-use Rattle.kinds.specs.Thermal.{no_unit, unit}
+use Rattle.market.proofs.Pricing.{none_fails, first_fails}
+use Rattle.kinds.specs.Thermal.{no_unit, NumbersFit}
 use Rattle.kinds.specs.ThermalTables.{Refused, RowsFit, NoRow, numbers_test, table, day, count, curves, numbers}
 use Rattle.kinds.proofs.Shapes.{rows_so, Crowded}
 use Rattle.kinds.proofs.ThermalTables.{decides_numbers, fits}
 use Rattle.thermal.proofs.ruling.making.first_no.Goals as goal
 
-untaken : (b : Bool) (n : ℕ) → cond b (Some n) None ≡ None → b ≡ false
-untaken false n e = refl
-untaken true n e = let z : ◌≡◌ {A = ℕ} 0 1 = cc in absurd (omega arith)
-
 -- the first row that has a number out of its range is what a scan tells
 row_told : (us : List ThermalUnit) (r : Option ℕ) → r ≡ position (λ u. not (numbers_test u)) us → MatchOption r (RowsFit us (length us)) (NoRow us)
-row_told us None e = λ k l.
-    let n = ltb-false _ _ (untaken (ltb (position_or_len (λ u. not (numbers_test u)) us) (length us)) _ (sym e)) in
-    (decides_numbers (unit us k)).0 (not-false _ (not-true _ (prefix_len_passes (λ u. not (not (numbers_test u))) us k no_unit (omega (arith, n)))))
+row_told us None e = none_fails numbers_test NumbersFit decides_numbers us no_unit e
 row_told us (Some i) e =
-    let p = position-Some (λ u. not (numbers_test u)) us i no_unit (sym e) in
-    record { within = p.0; before = λ k l. (decides_numbers (unit us k)).0 (not-false _ (p.2 k l)); out = λ h. both_ways (numbers_test (unit us i)) (not-true _ p.1) ((decides_numbers (unit us i)).1 h) }
+    let p = first_fails numbers_test NumbersFit decides_numbers us no_unit i e in
+    record { within = p.0; before = p.1; out = p.2 }
 
 -- the first two questions
 crowded : (n : ℕ) (us : List ThermalUnit) (e : TableFault) → Crowded n (length us) e → Refused (table n us) e
