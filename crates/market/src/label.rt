@@ -15,6 +15,7 @@ pub struct Label {
 impl fmt::Display for Label {
     ghost output = { λ label. Some (label_text label) };
 
+    #[tactic(auto, using(crate::proofs::Labels::hole_of_two))]
     fn fmt<W: fmt::Write>(&self, f: &mut fmt::Formatter<W>) -> fmt::Result {
         let Label { hour, minute } = *self;
         write!(f, "{hour:02}:{minute:02}")

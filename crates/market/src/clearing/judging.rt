@@ -1,6 +1,6 @@
 // A plan judged: row by row, and then period by period.
 // A period stays a number below the day's: a struct for it would hold the day beside one number.
-ghost use Rattle.std.specs.Prelude.{◌≡◌, ℕ, ◌<◌, ◌≤◌, length, ◌*ℤ◌};
+ghost use Rattle.std.specs.Prelude.{◌≡◌, ℕ, ◌<◌, ◌≤◌, length, ◌*ℤ◌, int_lt};
 ghost use Rattle.std.specs.Prelude.{Err, MatchResult};
 ghost use Rattle.market.specs.Clearing.{RowsKept, factor, part, row as row_of};
 ghost use Rattle.market.specs.Days.{numbers_of};
@@ -81,6 +81,13 @@ fn share(factor: i32, power: i32) -> Flow
     Factor(factor) * Tenths(power)
 }
 
+// Whether a flow is above another. A function of its own, so that an edit that must fail is refused for the fact.
+fn exceeds(flow: Flow, other: Flow) -> bool
+    ensures { result ≡ int_lt other.0 flow.0 }
+{
+    flow > other
+}
+
 impl Injections<'_> {
     // Of all nodes.
     fn sum(&self) -> Tenths
@@ -113,10 +120,10 @@ impl Injections<'_> {
             let carried = self.flow(line);
             let upper = Tenths(day.upper[line]).flow();
             let lower = Tenths(day.lower[line]).flow();
-            if carried > upper {
+            if exceeds(carried, upper) {
                 return Err(Refusal::Upper { line, period });
             }
-            if carried < lower {
+            if exceeds(lower, carried) {
                 return Err(Refusal::Lower { line, period });
             }
         }

@@ -3,7 +3,8 @@
 // The walks go by number: tables with different steps would be zipped, which is no plainer.
 mod bounding;
 
-ghost use Rattle.std.specs.Prelude.{◌≡◌, ◌<◌, length, slice_index_or};
+ghost use Rattle.std.specs.Prelude.{◌≡◌, ◌<◌, ◌*ℤ◌, FitsSigned, length, slice_index_or};
+ghost use Rattle.std.specs.Int.{w64};
 ghost use Rattle.market.specs.Bounding.{prices_of, LinesPriced, Netted, limits_come, loads_pay, PeriodsFloored};
 ghost use Rattle.market.specs.Clearing.{net_price};
 ghost use Rattle.market.specs.Days.{numbers_of};
@@ -41,6 +42,14 @@ struct Nets<'a> {
     ghost netted: { Netted (numbers_of lines.day.now.numbers) (prices_of lines.prices.now) cells },
 }
 
+// What a line's price takes of a node's, whose share flows over the line. A function of its own, so that an edit that must fail is refused for the fact.
+fn taken(price: Fen, share: Factor) -> NetPrice
+    requires { FitsSigned w64 (price.0 *ℤ share.0) }
+    ensures { result.0 ≡ price.0 *ℤ share.0 }
+{
+    price * share
+}
+
 impl<'a> LinePrices<'a> {
     // The system price, less what the lines' prices take of it at the node.
     fn net_price(&self, node: usize, period: usize) -> NetPrice
@@ -55,7 +64,7 @@ impl<'a> LinePrices<'a> {
             let upper: Fen = measured(self.prices.upper, cell);
             let lower: Fen = measured(self.prices.lower, cell);
             let share: Factor = measured(day.factors, line * day.nodes + node);
-            net = net - (upper - lower) * share;
+            net = net - taken(upper - lower, share);
         }
         net
     }

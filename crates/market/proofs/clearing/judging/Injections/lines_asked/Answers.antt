@@ -4,7 +4,7 @@ use Rattle.market.specs.Injections.{over, under}
 use Rattle.market.specs.Scans.{at}
 use Rattle.market.proofs.Ints.{reread}
 use Rattle.market.proofs.Making.{made_of}
-use Rattle.market.proofs.Scanning.{less_told, at_most_told, lt_is, gt_is}
+use Rattle.market.proofs.Scanning.{less_told, at_most_told}
 use Rattle.market.proofs.clearing.judging.Injections.lines_asked.Goals as goal
 use Rattle.market.proofs.clearing.judging.Injections.lines_asked.Goals.{After-flow-lower}
 
@@ -18,21 +18,21 @@ uppermost c = c.flow-upper.ensures ∙ ap (λ z. pos 1000 *ℤ z) (reread 200000
 lowest : (c : After-flow-lower) → c.flow-lower.result.0 ≡ pos 1000 *ℤ at c.args.self.now.day.now.numbers.lower.now c.loop-line.line
 lowest c = c.flow-lower.ensures ∙ ap (λ z. pos 1000 *ℤ z) (reread 200000 _ (lit≤ tt) ((made c).lower _ (omega (arith, c.loop-line-test.true, (made c).lengths.lower))))
 
-pub returns-then-gt : goal.returns-then-gt
-returns-then-gt c =
-    let at = (goal.at.returns-then-gt c).After-flow-lower in
+pub returns-then-exceeds : goal.returns-then-exceeds
+returns-then-exceeds c =
+    let at = (goal.at.returns-then-exceeds c).After-flow-lower in
     over c.loop-line.line c.loop-line-test.true c.loop-line.invariant
-    (less_told (uppermost at) c.flow-carried.ensures (c.if-gt.ensures ∙ gt_is c.flow-carried.result.0 c.flow-upper.result.0))
+    (less_told (uppermost at) c.flow-carried.ensures c.if-exceeds.ensures)
 
-pub returns-then-lt : goal.returns-then-lt
-returns-then-lt c =
-    let at = (goal.at.returns-then-lt c).After-flow-lower in
+pub returns-then-exceeds-2 : goal.returns-then-exceeds-2
+returns-then-exceeds-2 c =
+    let at = (goal.at.returns-then-exceeds-2 c).After-flow-lower in
     under c.loop-line.line c.loop-line-test.true c.loop-line.invariant
-    (at_most_told (uppermost at) c.flow-carried.ensures (c.if-gt.ensures ∙ gt_is c.flow-carried.result.0 c.flow-upper.result.0))
-    (less_told c.flow-carried.ensures (lowest at) (c.if-lt.ensures ∙ lt_is c.flow-carried.result.0 c.flow-lower.result.0))
+    (at_most_told (uppermost at) c.flow-carried.ensures c.if-exceeds.ensures)
+    (less_told c.flow-carried.ensures (lowest at) c.if-exceeds-2.ensures)
 
 pub loop-line-preserved : goal.loop-line-preserved
 loop-line-preserved c =
     let at = (goal.at.loop-line-preserved c).After-flow-lower in
     below_more _ _ c.loop-line.invariant
-    (at_most_told (uppermost at) c.flow-carried.ensures (c.if-gt.ensures ∙ gt_is c.flow-carried.result.0 c.flow-upper.result.0), at_most_told c.flow-carried.ensures (lowest at) (c.if-lt.ensures ∙ lt_is c.flow-carried.result.0 c.flow-lower.result.0))
+    (at_most_told (uppermost at) c.flow-carried.ensures c.if-exceeds.ensures, at_most_told c.flow-carried.ensures (lowest at) c.if-exceeds-2.ensures)

@@ -6,7 +6,7 @@ use Rattle.market.specs.Days.{Made, Numbers, numbers_of}
 use Rattle.market.proofs.Making.{made_of}
 use Rattle.market.proofs.NetPrices.{line_price, taken, net_before, net_none, net_more, cell_below, share_below, line_price_small, taken_small, net_before_small}
 use Rattle.market.proofs.clearing.net_prices.LinePrices.net_price.Goals as goal
-use Rattle.market.proofs.clearing.net_prices.LinePrices.net_price.Goals.{In-loop-line, After-sub, After-mul}
+use Rattle.market.proofs.clearing.net_prices.LinePrices.net_price.Goals.{In-loop-line, After-sub, After-taken}
 
 abbrev d : In-loop-line → Numbers
 d c = numbers_of c.args.self.now.day.now.numbers
@@ -45,15 +45,15 @@ measured-share-requires c =
     let i = (goal.at.measured-share-requires c).In-loop-line in
     share_below (d i) (s i) (made i) c.args.self.now.priced c.args.node c.loop-line.line c.requires.0 c.loop-line-test.true
 
-pub mul-requires : goal.mul-requires
-mul-requires c =
-    let i = (goal.at.mul-requires c).In-loop-line in
+pub taken-requires : goal.taken-requires
+taken-requires c =
+    let i = (goal.at.taken-requires c).In-loop-line in
     let b = taken_small (d i) (s i) (made i) c.args.self.now.priced c.args.node c.args.period c.loop-line.line c.requires.0 c.requires.1 c.loop-line-test.true in
-    let e : c.sub.result.0 *ℤ c.measured-share.result.0 ≡ taken (d i) (s i) c.args.node c.args.period c.loop-line.line = λ j. limit_is (goal.at.mul-requires c).After-sub j *ℤ c.measured-share.ensures (pos 0) j in
+    let e : c.sub.result.0 *ℤ c.measured-share.result.0 ≡ taken (d i) (s i) c.args.node c.args.period c.loop-line.line = λ j. limit_is (goal.at.taken-requires c).After-sub j *ℤ c.measured-share.ensures (pos 0) j in
     omega (arith, ints)
 
-taken_is : (c : After-mul) → c.mul.result.0 ≡ taken (numbers_of c.args.self.now.day.now.numbers) (prices_of c.args.self.now.prices.now) c.args.node c.args.period c.loop-line.line
-taken_is c = c.mul.ensures ∙ (λ j. limit_is (goal.at.sub-net-requires c).After-sub j *ℤ c.measured-share.ensures (pos 0) j)
+taken_is : (c : After-taken) → c.taken.result.0 ≡ taken (numbers_of c.args.self.now.day.now.numbers) (prices_of c.args.self.now.prices.now) c.args.node c.args.period c.loop-line.line
+taken_is c = c.taken.ensures ∙ (λ j. limit_is (goal.at.sub-net-requires c).After-sub j *ℤ c.measured-share.ensures (pos 0) j)
 
 pub sub-net-requires : goal.sub-net-requires
 sub-net-requires c =
@@ -65,7 +65,7 @@ sub-net-requires c =
 pub loop-line-preserved : goal.loop-line-preserved
 loop-line-preserved c =
     let i = (goal.at.loop-line-preserved c).In-loop-line in
-    c.sub-net.ensures ∙ (λ j. c.loop-line.net.0 -ℤ taken_is (goal.at.loop-line-preserved c).After-mul j) ∙ net_more (d i) (s i) c.args.node c.args.period c.loop-line.line c.loop-line.net.0 c.loop-line.invariant
+    c.sub-net.ensures ∙ (λ j. c.loop-line.net.0 -ℤ taken_is (goal.at.loop-line-preserved c).After-taken j) ∙ net_more (d i) (s i) c.args.node c.args.period c.loop-line.line c.loop-line.net.0 c.loop-line.invariant
 
 pub returns : goal.returns
 returns c =

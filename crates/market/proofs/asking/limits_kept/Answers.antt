@@ -1,7 +1,7 @@
 use Rattle.std.proofs.lemmas.Result.{err_from_is_err_and}
 use Rattle.market.specs.Fleet.{row_prices_of}
 use Rattle.market.proofs.Pricing.{rises_tell, falls_tell}
-use Rattle.market.proofs.asking.within_limits.Goals as goal
+use Rattle.market.proofs.asking.limits_kept.Goals as goal
 
 pub returns-in_err-within-2 : goal.returns-in_err-within-2
 returns-in_err-within-2 c =
