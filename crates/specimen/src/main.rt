@@ -1,6 +1,7 @@
 // Reads one vendor's file from standard input for the specimen's day, and prints its fault or a record of what it holds.
 #![tactic(auto)]
 
+use arrayvec::ArrayVec;
 use std::io::Read;
 use std::{fmt, io};
 use vendor::{Cells, Counts, FileFault, Shape};
@@ -27,8 +28,8 @@ type DayCells = Cells<ROW_CELLS, LINE_CELLS, PERIODS>;
 
 const MOST_BYTES: usize = 65_536;
 
-// One byte more than is taken, so that a longer input shows.
-const READ_BYTES: u64 = MOST_BYTES as u64 + 1;
+// One byte more than is taken, so that a longer input shows. What is read is held in place: a program for so small a file may not run out of memory.
+const READ_BYTES: usize = MOST_BYTES + 1;
 
 // The file's rows by letter.
 #[derive(Clone, Copy)]
@@ -55,8 +56,8 @@ fn judge(file: &[u8]) -> Result<Held, FileFault> {
 }
 
 fn main(rt: HostRuntime) -> io::Result<()> {
-    let mut file = Vec::new(rt.alloc());
-    rt.stdin().take(READ_BYTES).read_to_end(&mut file)?;
+    let mut file = ArrayVec::<u8, READ_BYTES>::new();
+    io::copy(&mut rt.stdin().take(READ_BYTES as u64), &mut file)?;
     match judge(file.as_slice()) {
         Ok(held) => println!(rt; "{held}"),
         Err(fault) => println!(rt; "file;{fault}"),

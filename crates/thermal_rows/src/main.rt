@@ -50,7 +50,7 @@ where
     field.parse().map_err(|_| Unread::Malformed)
 }
 
-// The next field as a list of so many numbers.
+// The next field as a list of so many numbers. One word more than that is read, so that a longer field shows.
 fn list<T: FromStr + Drop>(
     heap: Global,
     fields: &mut Split<'_, char>,
@@ -62,6 +62,7 @@ where
     let field = fields.next().ok_or(Unread::Malformed)?;
     let numbers: Vec<T> = field
         .split_whitespace()
+        .take(many.saturating_add(1))
         .map(|word| word.parse().map_err(|_| Unread::Malformed))
         .try_collect(heap)?;
     if numbers.len() == many {
