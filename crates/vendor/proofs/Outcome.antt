@@ -1,4 +1,4 @@
--- How a whole file is unless_no, by its size and its first faulty row. Assumes nothing.
+-- How a whole file is answered, by its size and its first faulty row. Assumes nothing.
 use Rattle.std.proofs.Common.{◌≡◌, ℕ, Bool, true, false, List, Some, None, Ok, Err, Option, Result, sym, refl, ap, ◌∙◌, subst, MatchResult}
 use Rattle.std.proofs.lemmas.Bool.{cond-true, cond-false, and_from, le-leb, eq-eqb, both_ways}
 use Rattle.vendor.specs.declared.faults.FileFault.{FileFault}

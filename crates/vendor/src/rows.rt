@@ -151,6 +151,15 @@ impl Row<'_> {
     }
 }
 
+impl Entry {
+    // Where the row stands in the order of the file: for other crates, which cannot name the type of the answer.
+    pub fn place(&self) -> Last
+        ensures { result ≡ place_of self.now }
+    {
+        Last::from(self)
+    }
+}
+
 // Where the row stands in the order of the file.
 impl From<&Entry> for Last {
     ghost from_gives = { λ entry place. place ≡ place_of entry.now };

@@ -1,7 +1,7 @@
 use Rattle.std.proofs.Common.{◌≡◌, ◌+◌, None, Ok, Err, Some, MatchResult, length, rules, sym}
 use Rattle.vendor.specs.declared.faults.RowFault.TheVariants.{Unended}
 use Rattle.vendor.proofs.Walking.{Passed, passed_none, passed_unended, passed_cut}
-use Rattle.vendor.proofs.reader.Reader.next_row.Goals as goal
+use Rattle.vendor.proofs.reader.Reader.row_here.Goals as goal
 
 none : (c : goal.Then-is_empty) → Passed c.args.self.now.file.now c.args.self.now.at (Ok None) c.args.self.now.at
 none c = passed_none _ _ (sym c.if-is_empty.ensures)
@@ -12,7 +12,7 @@ returns-then-is_empty-clause-answer c = (none c).answer
 pub returns-then-is_empty-clause-rows : goal.returns-then-is_empty-clause-rows
 returns-then-is_empty-clause-rows c = (none c).rows
 
-unended : (c : goal.After-self-1) → Passed c.args.self.now.file.now c.args.self.now.at (Err Unended) (length c.args.self.now.file.now)
+unended : (c : goal.In_default) → Passed c.args.self.now.file.now c.args.self.now.at (Err Unended) (length c.args.self.now.file.now)
 unended c = passed_unended _ _ (sym c.if-is_empty.ensures) c.in_default.ensures
 
 pub returns-in_default-clause-answer : goal.returns-in_default-clause-answer
