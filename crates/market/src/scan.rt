@@ -12,8 +12,14 @@ pub(crate) fn first_outside<T: Copy + PartialOrd>(table: &[T], low: T, high: T) 
 }
 
 // The same as the crates above read it; a second clause on one function for both would change the name by which their proofs read the first.
-pub fn outside(table: &[i32], low: i32, high: i32) -> Option<usize>
+fn ranged(table: &[i32], low: i32, high: i32) -> Option<usize>
     ensures { Outside low high table.now result }
 {
     first_outside(table, low, high)
+}
+
+pub fn outside(table: &[i32], low: i32, high: i32) -> Option<usize>
+    ensures { Outside low high table.now result }
+{
+    ranged(table, low, high)
 }
