@@ -252,13 +252,22 @@ impl Unit<'_> {
         self.running_part(step.mark, step.output) + self.start_part(step.before.mark, step.mark)
     }
 
+    // What the unit brings into the day. A function of its own for the verdict, so that an edit that must fail reaches the verdict alone.
+    fn before_day(&self) -> State
+        ensures mark { code_of result.mark ≡ self.now.record.now.mark }
+        ensures lasted { result.lasted ≡ self.now.record.now.lasted }
+        ensures output { result.output.0 ≡ self.now.record.now.output }
+    {
+        State::from(self)
+    }
+
     // The verdict, in one pass over the periods with the state before each. A pass of its own: what a period may be hangs on the state that the
     // one before leaves, where a row that always runs has none.
     fn judged(&self, schedule: &Schedule) -> Result<Grains, Broken>
         requires { (length schedule.now.marks.now ≡ length schedule.now.outputs.now) × (length schedule.now.marks.now ≤ 96) }
         ensures { Judged (rule self.now.record.now (schedule_of schedule.now)) (cost_in self.now.record.now (schedule_of schedule.now)) (length schedule.now.marks.now) result }
     {
-        let mut before = State::from(self);
+        let mut before = self.before_day();
         let mut cost = Grains(0);
         for (period, (mark, output)) in schedule.marks.iter().zip(schedule.outputs).enumerate() {
             let step = self

@@ -189,11 +189,11 @@ impl Priced<'_> {
         match before.mark {
             Mark::Running => {
                 let owed = before.owed(self.unit.record.least_running);
-                walk[0].running_to(walk[self.first().free_from(owed)])
+                walk[0].running_to(walk[owed.min(self.periods())])
             }
             Mark::Stopped => {
                 let owed = before.owed(self.unit.record.least_stopped);
-                walk[self.first().free_from(owed)].off
+                walk[owed.min(self.periods())].off
             }
         }
     }
